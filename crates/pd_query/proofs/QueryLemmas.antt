@@ -1,10 +1,13 @@
 -- What was put, said in other words, and why a query fails.
 use Rattle.std.proofs.Common.{◌≡◌, ℕ, List, Option, Some, None, IfSome, Result, Ok, Err, refl}
+use Rattle.pd_kinds.specs.declared.check_fault.CheckFault.{CheckFault}
+use Rattle.pd_kinds.specs.declared.check_fault.CheckFault.TheVariants as check
+use Rattle.pd_kinds.specs.CheckFault.{CountsCheckFault}
 use Rattle.pd_kinds.proofs.AppendLemmas.{front_none}
 use Rattle.pd_query.specs.declared.fault.QueryFault.{QueryFault}
 use Rattle.pd_query.specs.declared.fault.QueryFault.TheVariants.{Memory, Device, Sink}
 use Rattle.pd_query.specs.Puts.{Puts}
-use Rattle.pd_query.specs.Failing.{QueryEnds, Fails, SinkFails}
+use Rattle.pd_query.specs.Failing.{QueryEnds, Fails, SinkFails, StartFails, fault_of_check}
 use Rattle.pd_query.proofs.PutsLemmas.{told_text, two_told}
 
 -- what holds of the text that was put, where another thing does
@@ -48,3 +51,8 @@ ends_as (Err Sink) dev dev' out out' fails = fails
 pub sink_ends_as : (result : Result (Unit {0}) QueryFault) (dev out out' : ℕ) → SinkFails result out out' → QueryEnds result dev dev out out'
 sink_ends_as (Ok done) dev out out' fails = (refl, fails)
 sink_ends_as (Err fault) dev out out' fails = rw fails.0 (fails.1.0, fails.1.1, refl)
+
+-- a query isn't started where the check of what it takes fails
+pub starts_as : (fault : CheckFault) (dev dev' : ℕ) → CountsCheckFault {R = Unit {0}} (Err fault) dev dev' → StartFails {T = Unit {0}} (Err (fault_of_check fault)) dev dev'
+starts_as check.Memory dev dev' fails = fails
+starts_as check.Device dev dev' fails = fails

@@ -27,7 +27,6 @@ use Rattle.pd_shared_leaves.specs.Given.{GivesLeaf, GivesShape, IsGivenWhole, de
 use Rattle.pd_shared_leaves.specs.Pieces.{given_piece, pieces_below}
 use Rattle.pd_shared_leaves.proofs.MemberLemmas.{all_kept}
 use Rattle.pd_query.specs.SharedLines.{body_lines, entries_in, leaves_lines, piece_line, pieces_lines, shared_lines, sharing_lines}
-use Rattle.pd_query.proofs.SharedTextLemmas.{pieces_inside}
 
 -- of how many mappings given runs are
 spelled_sum : (runs : List given.Run) → sum_by (λ (run : given.Run). run.length) runs ≡ number_in (map spelled runs)
@@ -88,22 +87,21 @@ module _ (image : List (List ℕ)) where
   graph = thin_graph (block_at image 0)
 
   -- the lines of rows are those of the devices of the shape
-  rows_are : (rows : List DeviceRow) → AllByRecursion (λ (row : DeviceRow). row.root < length image) rows
-      → AllByRecursion (λ root. pieces_below (pool_leaves image) image root ≡ flat_map given_piece (device_pieces image root)) (map (λ (row : DeviceRow). row.root) rows)
+  rows_are : (rows : List DeviceRow) → AllByRecursion (λ root. pieces_below (pool_leaves image) image root ≡ flat_map given_piece (device_pieces image root)) (map (λ (row : DeviceRow). row.root) rows)
       → AllByRecursion (λ root. AllByRecursion IsGivenWhole (device_pieces image root)) (map (λ (row : DeviceRow). row.root) rows)
       → flat_map (sharing_lines (pool_leaves image) image) rows
       ≡ flat_map lines_of_part (map joined_part (device_shapes graph image (map (device_of image) rows) (map (λ (row : DeviceRow). row.root) rows)))
-  rows_are [] inside below whole = refl
-  rows_are (row ∷ rows) inside below whole =
+  rows_are [] below whole = refl
+  rows_are (row ∷ rows) below whole =
       let lines : pieces_lines (pool_leaves image) image row.root ≡ flat_map lines_of_piece (map joined_piece (device_pieces image row.root)) =
-      pieces_inside (pool_leaves image) image row.root inside.0 ∙ (ap (map piece_line) below.0 ∙ all_piece_lines (device_pieces image row.root) whole.0) in
-      rw (lines, rows_are rows inside.1 below.1 whole.1) refl
+      ap (map piece_line) below.0 ∙ all_piece_lines (device_pieces image row.root) whole.0 in
+      rw (lines, rows_are rows below.1 whole.1) refl
 
   devices_are : GivesPool image → GivesShape image
       → flat_map (sharing_lines (pool_leaves image) image) (pool_rows image)
       ≡ flat_map lines_of_part (map joined_part (device_shapes graph image (thin_meaning image).devices (pool_roots image)))
   devices_are pool gives =
-      rw (pool.devices, ← gives.roots) (rows_are (pool_rows image) pool.roots (rw (← gives.roots) at gives.pieces) (rw (← gives.roots) at gives.runs))
+      rw (pool.devices, ← gives.roots) (rows_are (pool_rows image) (rw (← gives.roots) at gives.pieces) (rw (← gives.roots) at gives.runs))
 
   body_are : GivesPool image → GivesShape image
       → body_lines (pool_leaves image) image (pool_rows image) ++ (end_line ∷ [])

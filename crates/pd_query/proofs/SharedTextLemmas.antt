@@ -1,7 +1,6 @@
 -- The text of shared leaves, of pieces and of devices, one after another.
 use Rattle.std.proofs.Common.{◌≡◌, ℕ, ◌+◌, ◌-◌, ◌^◌, ◌<◌, ◌≤◌, min, List, [], ◌∷◌, ◌++◌, length, map, drop, get_or, sum_by, refl, ap, ◌∙◌, arith}
 use Rattle.std.specs.List.{flat_map}
-use Rattle.std.proofs.lemmas.Bool.{le-ltb, lt-ltb}
 use Rattle.std.proofs.lemmas.List.{append-nil, drop_more}
 use Rattle.std.proofs.lemmas.List.Sums.{sum_by-cons}
 use Rattle.pd_grammar.specs.Texts.{text_of_lines}
@@ -10,8 +9,7 @@ use Rattle.pd_texts.specs.Printed.{text_of_line}
 use Rattle.pd_thin_meaning.specs.declared.devices.DeviceRow.{DeviceRow}
 use Rattle.pd_thin_meaning.specs.declared.joined.Run.{Run}
 use Rattle.pd_shared_leaves.specs.declared.pieces.Piece.{Piece}
-use Rattle.pd_shared_leaves.specs.Pieces.{pieces_below}
-use Rattle.pd_query.specs.SharedLines.{body_lines, leaf_lines, leaves_lines, piece_line, pieces_lines, sharing_lines}
+use Rattle.pd_query.specs.SharedLines.{body_lines, leaf_lines, leaves_lines, piece_line, sharing_lines}
 use Rattle.pd_query.proofs.TextLemmas.{text-append}
 
 -- a piece before others
@@ -40,13 +38,6 @@ leaves_first shared image rows = text-append (leaves_lines image 0 shared) _
 -- other lines before the last one
 pub last_after : (lines : List Line) (last : Line) → text_of_lines thin (lines ++ (last ∷ [])) ≡ text_of_lines thin lines ++ text_of_line thin last
 last_after lines last = text-append lines (last ∷ []) ∙ ap (λ (text : List ℕ). text_of_lines thin lines ++ text) (append-nil (text_of_line thin last))
-
--- no pieces below a block outside of the image, and those below one inside
-pub no_pieces_outside : (shared : List ℕ) (image : List (List ℕ)) (root : ℕ) → length image ≤ root → text_of_lines thin (pieces_lines shared image root) ≡ []
-no_pieces_outside shared image root outside = rw (le-ltb root (length image) outside) refl
-
-pub pieces_inside : (shared : List ℕ) (image : List (List ℕ)) (root : ℕ) → root < length image → pieces_lines shared image root ≡ map piece_line (pieces_below shared image root)
-pieces_inside shared image root inside = rw (lt-ltb root (length image) inside) refl
 
 -- how many mappings runs have, where some were counted before them
 abbrev pub entries_after : ℕ → List Run → ℕ

@@ -1,8 +1,15 @@
 -- Why a query fails.
 use Rattle.std.specs.Prelude.{◌≡◌, ℕ, ◌≤◌, Result, MatchResult}
+use Rattle.pd_kinds.specs.declared.check_fault.CheckFault.{CheckFault}
+use Rattle.pd_kinds.specs.declared.check_fault.CheckFault.TheVariants as check
 use Rattle.pd_kinds.specs.Objects.{Rose}
 use Rattle.pd_query.specs.declared.fault.QueryFault.{QueryFault}
 use Rattle.pd_query.specs.declared.fault.QueryFault.TheVariants.{Memory, Device, Sink}
+
+-- a check's fault as that of a query
+abbrev pub fault_of_check : CheckFault → QueryFault
+fault_of_check check.Memory = Memory
+fault_of_check check.Device = Device
 
 -- the faults of the object that failed rose, and those of the other are as they were; memory isn't wanting
 abbrev pub HasFailed : QueryFault → ℕ → ℕ → ℕ → ℕ → Type 0

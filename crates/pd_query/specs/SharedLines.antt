@@ -1,5 +1,5 @@
 -- The lines of a pool's text of version 2, over the bytes of an image alone.
-use Rattle.std.specs.Prelude.{ℕ, ◌+◌, ◌-◌, ◌^◌, min, nat_lt, if◌then◌else◌, List, [], ◌∷◌, ◌++◌, length, map, sum_by}
+use Rattle.std.specs.Prelude.{ℕ, ◌+◌, ◌-◌, ◌^◌, min, List, [], ◌∷◌, ◌++◌, map, sum_by}
 use Rattle.std.specs.List.{flat_map}
 use Rattle.pd_kinds.specs.declared.thin_super.ThinSuper.{ThinSuper}
 use Rattle.pd_spells.specs.ThinText.{Line, shared_first_line, pool_line, leaf_line, device_line, use_line, map_line, end_line}
@@ -31,10 +31,9 @@ abbrev pub leaves_lines : List (List ℕ) → ℕ → List ℕ → List Line
 leaves_lines image number [] = []
 leaves_lines image number (b ∷ blocks) = leaf_lines image number b ++ leaves_lines image (number + 1) blocks
 
--- the lines of the pieces below a root, where the leaves in these blocks are shared. There are none below a block
--- outside of the image
+-- the lines of the pieces below a root, where the leaves in these blocks are shared
 abbrev pub pieces_lines : List ℕ → List (List ℕ) → ℕ → List Line
-pieces_lines shared image root = if nat_lt root (length image) then map piece_line (pieces_below shared image root) else []
+pieces_lines shared image root = map piece_line (pieces_below shared image root)
 
 -- the lines of a device
 abbrev pub sharing_lines : List ℕ → List (List ℕ) → DeviceRow → List Line

@@ -1,5 +1,5 @@
 -- The text of a pool, as it is dumped.
-use Rattle.std.specs.Prelude.{ℕ, List, [], ◌∷◌, ◌++◌, map, Option, Some, None}
+use Rattle.std.specs.Prelude.{ℕ, List, [], ◌∷◌, ◌++◌, map}
 use Rattle.std.specs.List.{flat_map}
 use Rattle.pd_kinds.specs.declared.thin_super.ThinSuper.{ThinSuper}
 use Rattle.pd_grammar.specs.Texts.{text_of_lines}
@@ -7,7 +7,7 @@ use Rattle.pd_spells.specs.ThinText.{end_line, map_line, thin}
 use Rattle.pd_thin_meaning.specs.declared.devices.DeviceRow.{DeviceRow}
 use Rattle.pd_thin_meaning.specs.declared.devices.ThinDevices.{ThinDevices}
 use Rattle.pd_thin_meaning.specs.declared.joined.Run.{Run}
-use Rattle.pd_thin_meaning.specs.Devices.{rows_left, rows_room}
+use Rattle.pd_thin_meaning.specs.Devices.{rows_left}
 use Rattle.pd_thin_meaning.specs.Given.{row_lines, super_lines}
 use Rattle.pd_thin_meaning.specs.Joined.{spelled}
 
@@ -26,15 +26,6 @@ rows_text image rows = text_of_lines thin (flat_map (row_lines image) rows)
 abbrev pub dump_text : List (List ℕ) → ThinSuper → List ℕ
 dump_text image s = text_of_lines thin (super_lines image s)
 
--- the rows that are left; there are none where a root is outside of the device
-abbrev pub some_rows : List (List ℕ) → Option ThinDevices → List DeviceRow
-some_rows image None = []
-some_rows image (Some devices) = rows_left image devices
-
-abbrev pub some_room : Option ThinDevices → ℕ
-some_room None = 0
-some_room (Some devices) = rows_room devices
-
 -- the lines of the devices that are left, and the last line
-abbrev pub rest_text : List (List ℕ) → Option ThinDevices → List ℕ
-rest_text image devices = text_of_lines thin (flat_map (row_lines image) (some_rows image devices) ++ (end_line ∷ []))
+abbrev pub rest_text : List (List ℕ) → ThinDevices → List ℕ
+rest_text image devices = text_of_lines thin (flat_map (row_lines image) (rows_left image devices) ++ (end_line ∷ []))

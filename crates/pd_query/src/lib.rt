@@ -22,4 +22,4 @@ pub use query::Query;
 pub use shared_dump::{SharedDump, TextOfShape};
 pub use shared_laws::shared_lines_are_the_text;
 pub use thin_dump::{TextOfPool, ThinDump};
-pub use thin_lines::{devices_of, read_super};
+pub use thin_lines::read_super;

@@ -22,15 +22,15 @@ pub trait Query {
     /// The text that answers, of an image without faults up to the stage Whole.
     ghost answer: { Self → List (List ℕ) → List ℕ };
 
-    /// It was started over a device that holds this where it tells what it holds, of so many blocks.
-    ghost IsOver: { Self → Self.Started → Option (List (List ℕ)) → ℕ → Type 0 };
+    /// It was started over a device that holds this where it tells what it holds.
+    ghost IsOver: { Self → Self.Started → Option (List (List ℕ)) → Type 0 };
 
     /// Reads what there is to read before `out` is attached, and takes the memory for that.
     ///
     /// Fails with `Device` where a read failed, and with `Memory` where memory wasn't found.
     fn start<D: Device>(&self, alloc: Global, dev: &mut D) -> Result<Self::Started, QueryFault>
         requires { IsAttached (D.state dev.old) }
-        ensures over { IfOk result (λ started. IsOver self.now started (D.state dev.old).held (D.state dev.old).blocks) }
+        ensures over { IfOk result (λ started. IsOver self.now started (D.state dev.old).held) }
         ensures kept { OnlyReads (D.state dev.old) (D.state dev.new) }
         ensures faults { StartFails result (D.state dev.old).faults (D.state dev.new).faults };
 
@@ -47,7 +47,7 @@ pub trait Query {
     ) -> Result<(), QueryFault>
         requires dev { IsAttached (D.state dev.old) }
         requires out { (K.state out.old).access ≡ 1 }
-        requires over { IsOver self.now started (D.state dev.old).held (D.state dev.old).blocks }
+        requires over { IsOver self.now started (D.state dev.old).held }
         ensures text { PutsAnswer kind (answer self.now) result (D.state dev.old).held (K.state out.old).written (K.state out.new).written }
         ensures kept { OnlyReads (D.state dev.old) (D.state dev.new) }
         ensures sink { KeepsSink (K.state out.old) (K.state out.new) }

@@ -2,7 +2,7 @@
 
 use crate::fault::QueryFault;
 use pd_image::Device;
-use pd_kinds::{CheckFault, ThinSuper};
+use pd_kinds::ThinSuper;
 use pd_shared_leaves::{PieceRuns, SharedLeaves};
 use pd_thin_meaning::{MapRuns, ThinDevices};
 use std::alloc::{AllocError, Global};
@@ -19,7 +19,7 @@ pub(crate) struct SharingDevices {
 }
 
 impl SharingDevices {
-    ghost use Rattle.std.specs.Prelude.{◌≡◌, ◌<◌, ◌≤◌, ℕ, List, [], IfOk, IfSome, length};
+    ghost use Rattle.std.specs.Prelude.{◌≡◌, ℕ, List, [], IfOk, IfSome};
     ghost use Rattle.pd_kinds.specs.declared.kind.Kind.TheVariants.{Thin};
     ghost use Rattle.pd_kinds.specs.declared.kind.Stage.TheVariants.{Whole};
     ghost use Rattle.pd_kinds.specs.Graph.{block_at};
@@ -28,46 +28,30 @@ impl SharingDevices {
     ghost use Rattle.pd_kinds.specs.ThinSuper.{thin_fields};
     ghost use Rattle.pd_image.specs.Device.{IsAttached, OnlyReads};
     ghost use Rattle.pd_shapes.specs.ImageShape.{shared_leaves};
-    ghost use Rattle.pd_thin_meaning.specs.Devices.{rows_left, rows_room};
+    ghost use Rattle.pd_thin_meaning.specs.Devices.{rows_left};
     ghost use Rattle.pd_thin_meaning.specs.Given.{super_rows};
     ghost use Rattle.pd_shared_leaves.specs.Leaves.{shared_blocks};
     ghost use Rattle.pd_query.specs.Failing.{StartFails};
-    ghost use Rattle.pd_query.specs.SharedDump.{body_left, body_room};
+    ghost use Rattle.pd_query.specs.SharedDump.{body_left};
     ghost use Rattle.pd_query.specs.SharedLines.{body_lines};
 
-    /// Finds the shared leaves of the pool with this superblock, and takes the memory for four cursors; none where a
-    /// root is outside of the device.
+    /// Finds the shared leaves of the pool with this superblock, and takes the memory for four cursors.
     ///
     /// Fails with `Device` where a read failed, and with `Memory` where memory wasn't found.
     pub(crate) fn start<D: Device>(
         alloc: Global,
         dev: &mut D,
         s: &ThinSuper,
-    ) -> Result<Option<SharingDevices>, QueryFault>
+    ) -> Result<SharingDevices, QueryFault>
         requires { IsAttached (D.state dev.old) }
         ensures lines { IfOk result (λ sharing. IfSome (D.state dev.old).held (λ image. faults Thin Whole image ≡ [] → s.now ≡ thin_fields (block_at image 0)
-            → s.now.mapping_root < length image → s.now.details_root < length image
             → body_left image sharing ≡ body_lines (shared_leaves (thin_graph (block_at image 0)) image) image (super_rows image s.now))) }
-        ensures room { IfOk result (λ sharing. body_room sharing ≤ (D.state dev.old).blocks) }
         ensures kept { OnlyReads (D.state dev.old) (D.state dev.new) }
         ensures faults { StartFails result (D.state dev.old).faults (D.state dev.new).faults }
     {
-        let blocks = dev.blocks();
-        if s.mapping_root >= blocks {
-            return Ok(None);
-        }
-        if s.details_root >= blocks {
-            return Ok(None);
-        }
-        let shared = match SharedLeaves::find(alloc, dev, s) {
-            Ok(shared) => shared,
-            Err(CheckFault::Device) => return Err(QueryFault::Device),
-            Err(CheckFault::Memory) => return Err(QueryFault::Memory),
-        };
-        match SharingDevices::with_super(alloc, s, shared) {
-            Ok(sharing) => Ok(Some(sharing)),
-            Err(_) => Err(QueryFault::Memory),
-        }
+        let shared = SharedLeaves::find(alloc, dev, s)?;
+        let sharing = SharingDevices::with_super(alloc, s, shared)?;
+        Ok(sharing)
     }
 
     /// Takes the memory for the four cursors over the pool with this superblock and these shared leaves.
@@ -78,7 +62,6 @@ impl SharingDevices {
     ) -> Result<SharingDevices, AllocError>
         ensures rows { (image : List (List ℕ)) → IfOk result (λ sharing. rows_left image sharing.devices ≡ super_rows image s.now) }
         ensures shared { IfOk result (λ sharing. shared_blocks sharing.shared ≡ shared_blocks shared) }
-        ensures room { (blocks : ℕ) → s.now.mapping_root < blocks → s.now.details_root < blocks → IfOk result (λ sharing. rows_room sharing.devices ≤ blocks) }
     {
         let devices = ThinDevices::start(alloc, s)?;
         let runs = MapRuns::start(alloc, s.mapping_root)?;

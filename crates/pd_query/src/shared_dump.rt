@@ -17,12 +17,11 @@ use std::alloc::Global;
 #[derive(Drop)]
 pub struct SharedDump {
     s: ThinSuper,
-    /// The devices and their shared leaves; none where a root is outside of the device.
-    sharing: Option<SharingDevices>,
+    sharing: SharingDevices,
 }
 
 impl SharedDump {
-    ghost use Rattle.std.specs.Prelude.{◌≡◌, ◌≤◌, ℕ, List, [], IfOk, IfSome};
+    ghost use Rattle.std.specs.Prelude.{◌≡◌, ℕ, List, [], IfOk, IfSome};
     ghost use Rattle.pd_kinds.specs.declared.kind.Kind.TheVariants.{Thin};
     ghost use Rattle.pd_kinds.specs.declared.kind.Stage.TheVariants.{Whole};
     ghost use Rattle.pd_kinds.specs.Stages.{faults};
@@ -32,7 +31,7 @@ impl SharedDump {
     ghost use Rattle.pd_shapes.specs.SharedText.{text_of_shape};
     ghost use Rattle.pd_query.specs.Puts.{PutsText};
     ghost use Rattle.pd_query.specs.Failing.{Fails, StartFails};
-    ghost use Rattle.pd_query.specs.SharedDump.{shared_room, shared_text_left};
+    ghost use Rattle.pd_query.specs.SharedDump.{shared_text_left};
 
     /// Reads the superblock of a pool, finds the leaves that its devices share, and takes the memory for its dump: that
     /// of these leaves, and four cursors over trees.
@@ -41,7 +40,6 @@ impl SharedDump {
     pub fn start<D: Device>(alloc: Global, dev: &mut D) -> Result<SharedDump, QueryFault>
         requires { IsAttached (D.state dev.old) }
         ensures means { IfOk result (λ dump. IfSome (D.state dev.old).held (λ image. faults Thin Whole image ≡ [] → shared_text_left image dump ≡ text_of_shape (image_shape image))) }
-        ensures room { IfOk result (λ dump. shared_room dump ≤ (D.state dev.old).blocks) }
         ensures kept { OnlyReads (D.state dev.old) (D.state dev.new) }
         ensures faults { StartFails result (D.state dev.old).faults (D.state dev.new).faults }
     {
@@ -61,7 +59,6 @@ impl SharedDump {
     pub fn put<D: Device, K: Sink>(&mut self, dev: &mut D, out: &mut K) -> Result<(), QueryFault>
         requires dev { IsAttached (D.state dev.old) }
         requires out { (K.state out.old).access ≡ 1 }
-        requires within { shared_room self.old ≤ (D.state dev.old).blocks }
         ensures text { PutsText (D.state dev.old).held (λ image. shared_text_left image self.old) result (K.state out.old).written (K.state out.new).written }
         ensures kept { OnlyReads (D.state dev.old) (D.state dev.new) }
         ensures sink { KeepsSink (K.state out.old) (K.state out.new) }
@@ -78,12 +75,12 @@ impl SharedDump {
 pub struct TextOfShape;
 
 impl Query for TextOfShape {
-    ghost use Rattle.std.specs.Prelude.{◌≡◌, ◌≤◌};
+    ghost use Rattle.std.specs.Prelude.{◌≡◌};
     ghost use Rattle.pd_kinds.specs.declared.kind.Kind.TheVariants.{Thin};
     ghost use Rattle.pd_shapes.specs.ImageShape.{image_shape};
     ghost use Rattle.pd_shapes.specs.SharedText.{text_of_shape};
     ghost use Rattle.pd_query.specs.Sound.{IfSound};
-    ghost use Rattle.pd_query.specs.SharedDump.{shared_room, shared_text_left};
+    ghost use Rattle.pd_query.specs.SharedDump.{shared_text_left};
 
     type Started = SharedDump;
 
@@ -91,8 +88,7 @@ impl Query for TextOfShape {
 
     ghost answer = { λ query image. text_of_shape (image_shape image) };
 
-    ghost IsOver = { λ query dump held blocks. (shared_room dump ≤ blocks)
-        × IfSound Thin held (λ image. shared_text_left image dump ≡ text_of_shape (image_shape image)) };
+    ghost IsOver = { λ query dump held. IfSound Thin held (λ image. shared_text_left image dump ≡ text_of_shape (image_shape image)) };
 
     fn start<D: Device>(&self, alloc: Global, dev: &mut D) -> Result<SharedDump, QueryFault> {
         SharedDump::start(alloc, dev)

@@ -11,14 +11,14 @@ ghost use Rattle.pd_spells.specs.ThinText as p;
 ghost use Rattle.pd_spells.specs.ThinText.{thin};
 ghost use Rattle.pd_texts.specs.Printed.{text_of_line};
 ghost use Rattle.pd_texts.specs.ThinLine.{line_of};
-ghost use Rattle.pd_thin_meaning.specs.Devices.{rows_left, rows_room};
+ghost use Rattle.pd_thin_meaning.specs.Devices.{rows_left};
 ghost use Rattle.pd_thin_meaning.specs.Given.{super_head};
-ghost use Rattle.pd_thin_meaning.specs.Runs.{runs_below, runs_left, runs_room};
+ghost use Rattle.pd_thin_meaning.specs.Runs.{runs_below, runs_left};
 ghost use Rattle.pd_shared_leaves.specs.Leaves.{shared_blocks};
-ghost use Rattle.pd_shared_leaves.specs.Pieces.{pieces_left, pieces_room};
+ghost use Rattle.pd_shared_leaves.specs.Pieces.{pieces_left};
 ghost use Rattle.pd_query.specs.Failing.{Fails, SinkFails};
 ghost use Rattle.pd_query.specs.Puts.{PrintsSome};
-ghost use Rattle.pd_query.specs.SharedDump.{body_left, body_room};
+ghost use Rattle.pd_query.specs.SharedDump.{body_left};
 ghost use Rattle.pd_query.specs.SharedLines.{body_lines, entries_in, leaf_lines, leaves_lines, piece_line, pieces_lines, sharing_lines};
 
 use crate::counts::DumpCounts;
@@ -52,7 +52,6 @@ fn print_piece<K: Sink>(piece: &Piece, printer: &mut Printer<'_, K>) -> Result<(
 /// How many mappings the runs that are left have, up to the end of the number's type.
 fn count_runs<D: Device>(runs: &mut MapRuns, dev: &mut D) -> Result<u64, Failed>
     requires dev { IsAttached (D.state dev.old) }
-    requires within { runs_room runs.old ≤ (D.state dev.old).blocks }
     ensures entries { IfOk result (λ entries. IfSome (D.state dev.old).held (λ image. entries ≡ entries_in (runs_left image runs.old))) }
     ensures kept { OnlyReads (D.state dev.old) (D.state dev.new) }
     ensures faults { CountsFault result (D.state dev.old).faults (D.state dev.new).faults }
@@ -66,16 +65,13 @@ fn count_runs<D: Device>(runs: &mut MapRuns, dev: &mut D) -> Result<u64, Failed>
     }
 }
 
-/// How many mappings the runs below a root have. There are none below a block outside of the device.
+/// How many mappings the runs below a root have.
 fn count_runs_of<D: Device>(root: u64, runs: &mut MapRuns, dev: &mut D) -> Result<u64, Failed>
     requires dev { IsAttached (D.state dev.old) }
     ensures entries { IfOk result (λ entries. IfSome (D.state dev.old).held (λ image. entries ≡ entries_in (runs_below image root))) }
     ensures kept { OnlyReads (D.state dev.old) (D.state dev.new) }
     ensures faults { CountsFault result (D.state dev.old).faults (D.state dev.new).faults }
 {
-    if root >= dev.blocks() {
-        return Ok(0);
-    }
     runs.restart(root);
     count_runs(runs, dev)
 }
@@ -132,7 +128,6 @@ fn add_pieces<D: Device, K: Sink>(
 ) -> Result<(), QueryFault>
     requires dev { IsAttached (D.state dev.old) }
     requires out { (K.state printer.old.out.now).access ≡ 1 }
-    requires within { pieces_room pieces.old ≤ (D.state dev.old).blocks }
     ensures same_reference { printer.new.out.ghost_name ≡ printer.old.out.ghost_name }
     ensures prints { PrintsSome (D.state dev.old).held (λ image. text_of_lines thin (map piece_line (pieces_left (shared_blocks shared.now) image pieces.old))) result (printing K.state printer.old) (printing K.state printer.new) }
     ensures kept { OnlyReads (D.state dev.old) (D.state dev.new) }
@@ -150,7 +145,7 @@ fn add_pieces<D: Device, K: Sink>(
     }
 }
 
-/// Prints the lines of the pieces below a root. There are none below a block outside of the device.
+/// Prints the lines of the pieces below a root.
 fn add_pieces_of<D: Device, K: Sink>(
     root: u64,
     pieces: &mut PieceRuns,
@@ -165,9 +160,6 @@ fn add_pieces_of<D: Device, K: Sink>(
     ensures kept { OnlyReads (D.state dev.old) (D.state dev.new) }
     ensures faults { Fails result (D.state dev.old).faults (D.state dev.new).faults (K.state printer.old.out.now).faults (K.state printer.new.out.now).faults }
 {
-    if root >= dev.blocks() {
-        return Ok(());
-    }
     pieces.restart(root);
     add_pieces(pieces, shared, dev, printer)
 }
@@ -205,7 +197,6 @@ fn add_sharing_devices<D: Device, K: Sink>(
 ) -> Result<(), QueryFault>
     requires dev { IsAttached (D.state dev.old) }
     requires out { (K.state printer.old.out.now).access ≡ 1 }
-    requires within { rows_room devices.old ≤ (D.state dev.old).blocks }
     ensures same_reference { printer.new.out.ghost_name ≡ printer.old.out.ghost_name }
     ensures prints { PrintsSome (D.state dev.old).held (λ image. text_of_lines thin (flat_map (sharing_lines (shared_blocks shared.now) image) (rows_left image devices.old))) result (printing K.state printer.old) (printing K.state printer.new) }
     ensures kept { OnlyReads (D.state dev.old) (D.state dev.new) }
@@ -223,23 +214,19 @@ fn add_sharing_devices<D: Device, K: Sink>(
     }
 }
 
-/// Prints the lines of the shared leaves and of the devices that are left, if there are any.
+/// Prints the lines of the shared leaves and of the devices that are left.
 fn add_body<D: Device, K: Sink>(
-    sharing: &mut Option<SharingDevices>,
+    sharing: &mut SharingDevices,
     dev: &mut D,
     printer: &mut Printer<'_, K>,
 ) -> Result<(), QueryFault>
     requires dev { IsAttached (D.state dev.old) }
     requires out { (K.state printer.old.out.now).access ≡ 1 }
-    requires within { body_room sharing.old ≤ (D.state dev.old).blocks }
     ensures same_reference { printer.new.out.ghost_name ≡ printer.old.out.ghost_name }
     ensures prints { PrintsSome (D.state dev.old).held (λ image. text_of_lines thin (body_left image sharing.old)) result (printing K.state printer.old) (printing K.state printer.new) }
     ensures kept { OnlyReads (D.state dev.old) (D.state dev.new) }
     ensures faults { Fails result (D.state dev.old).faults (D.state dev.new).faults (K.state printer.old.out.now).faults (K.state printer.new.out.now).faults }
 {
-    let Some(sharing) = sharing else {
-        return Ok(());
-    };
     add_leaves(&sharing.shared, &mut sharing.runs, dev, printer)?;
     add_sharing_devices(
         &mut sharing.devices,
@@ -263,13 +250,12 @@ fn add_shared_first<K: Sink>(printer: &mut Printer<'_, K>) -> Result<(), QueryFa
 /// Prints the lines of a pool, from the first one to the last.
 pub(crate) fn add_shared_pool<D: Device, K: Sink>(
     s: &ThinSuper,
-    sharing: &mut Option<SharingDevices>,
+    sharing: &mut SharingDevices,
     dev: &mut D,
     printer: &mut Printer<'_, K>,
 ) -> Result<(), QueryFault>
     requires dev { IsAttached (D.state dev.old) }
     requires out { (K.state printer.old.out.now).access ≡ 1 }
-    requires within { body_room sharing.old ≤ (D.state dev.old).blocks }
     ensures same_reference { printer.new.out.ghost_name ≡ printer.old.out.ghost_name }
     ensures prints { PrintsSome (D.state dev.old).held (λ image. text_of_lines thin (p.shared_first_line ∷ (p.pool_line (super_head s.now) ∷ (body_left image sharing.old ++ (p.end_line ∷ []))))) result (printing K.state printer.old) (printing K.state printer.new) }
     ensures kept { OnlyReads (D.state dev.old) (D.state dev.new) }

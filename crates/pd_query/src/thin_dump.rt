@@ -3,7 +3,7 @@
 use crate::counts::DumpCounts;
 use crate::fault::QueryFault;
 use crate::query::Query;
-use crate::thin_lines::{add_pool, devices_of, read_super};
+use crate::thin_lines::{add_pool, read_super};
 use pd_image::{Device, Sink};
 use pd_kinds::ThinSuper;
 use pd_lines::Printer;
@@ -14,8 +14,7 @@ use std::alloc::{AllocError, Global};
 #[derive(Drop)]
 pub struct ThinDump {
     s: ThinSuper,
-    /// The devices; none where a root is outside of the device.
-    devices: Option<ThinDevices>,
+    devices: ThinDevices,
     runs: MapRuns,
 }
 
@@ -33,7 +32,7 @@ impl ThinDump {
     ghost use Rattle.pd_query.specs.Puts.{PutsText};
     ghost use Rattle.pd_query.specs.Failing.{Fails, StartFails};
     ghost use Rattle.pd_query.specs.Counts.{IsCountOf};
-    ghost use Rattle.pd_query.specs.ThinDump.{dump_room, lines_left, text_left, used_of};
+    ghost use Rattle.pd_query.specs.ThinDump.{lines_left, text_left, used_of};
     ghost use Rattle.pd_query.specs.ThinText.{dump_text};
     ghost use Rattle.pd_thin_meaning.specs.Given.{super_lines};
 
@@ -46,7 +45,6 @@ impl ThinDump {
         ensures means { IfOk result (λ dump. IfSome (D.state dev.old).held (λ image. faults Thin Whole image ≡ [] → text_left image dump ≡ text_of_pool (thin_meaning image))) }
         ensures lines { IfOk result (λ dump. IfSome (D.state dev.old).held (λ image. 1 ≤ length image → lines_left image dump ≡ super_lines image (thin_fields (block_at image 0)))) }
         ensures used { IfOk result (λ dump. IfSome (D.state dev.old).held (λ image. 1 ≤ length image → used_of dump ≡ (thin_fields (block_at image 0)).meta_map.allocated)) }
-        ensures room { IfOk result (λ dump. dump_room dump ≤ (D.state dev.old).blocks) }
         ensures kept { OnlyReads (D.state dev.old) (D.state dev.new) }
         ensures faults { StartFails result (D.state dev.old).faults (D.state dev.new).faults }
     {
@@ -56,21 +54,18 @@ impl ThinDump {
             Ok(s) => s,
             Err(_) => return Err(QueryFault::Device),
         };
-        match ThinDump::with_super(alloc, s, dev.blocks()) {
-            Ok(dump) => Ok(dump),
-            Err(_) => Err(QueryFault::Memory),
-        }
+        let dump = ThinDump::with_super(alloc, s)?;
+        Ok(dump)
     }
 
-    /// Takes the memory for the dump of the pool with this superblock, in a device of so many blocks.
-    fn with_super(alloc: Global, s: ThinSuper, blocks: u64) -> Result<ThinDump, AllocError>
-        ensures text { (image : List (List ℕ)) → length image ≡ blocks → IfOk result (λ dump. text_left image dump ≡ dump_text image s) }
-        ensures lines { (image : List (List ℕ)) → length image ≡ blocks → IfOk result (λ dump. lines_left image dump ≡ super_lines image s) }
+    /// Takes the memory for the dump of the pool with this superblock.
+    fn with_super(alloc: Global, s: ThinSuper) -> Result<ThinDump, AllocError>
+        ensures text { (image : List (List ℕ)) → IfOk result (λ dump. text_left image dump ≡ dump_text image s) }
+        ensures lines { (image : List (List ℕ)) → IfOk result (λ dump. lines_left image dump ≡ super_lines image s) }
         ensures used { IfOk result (λ dump. used_of dump ≡ s.meta_map.allocated) }
-        ensures room { IfOk result (λ dump. dump_room dump ≤ blocks) }
     {
         let runs = MapRuns::start(alloc, s.mapping_root)?;
-        let devices = devices_of(alloc, &s, blocks)?;
+        let devices = ThinDevices::start(alloc, &s)?;
         Ok(ThinDump { s, devices, runs })
     }
 
@@ -87,7 +82,6 @@ impl ThinDump {
     pub fn put<D: Device, K: Sink>(&mut self, dev: &mut D, out: &mut K) -> Result<(), QueryFault>
         requires dev { IsAttached (D.state dev.old) }
         requires out { (K.state out.old).access ≡ 1 }
-        requires within { dump_room self.old ≤ (D.state dev.old).blocks }
         ensures text { PutsText (D.state dev.old).held (λ image. text_left image self.old) result (K.state out.old).written (K.state out.new).written }
         ensures kept { OnlyReads (D.state dev.old) (D.state dev.new) }
         ensures sink { KeepsSink (K.state out.old) (K.state out.new) }
@@ -105,7 +99,6 @@ impl ThinDump {
     ) -> Result<DumpCounts, QueryFault>
         requires dev { IsAttached (D.state dev.old) }
         requires out { (K.state out.old).access ≡ 1 }
-        requires within { dump_room self.old ≤ (D.state dev.old).blocks }
         ensures text { PutsText (D.state dev.old).held (λ image. text_left image self.old) result (K.state out.old).written (K.state out.new).written }
         ensures counted { IfOk result (λ counts. IfSome (D.state dev.old).held (λ image. IsCountOf counts (lines_left image self.old))) }
         ensures kept { OnlyReads (D.state dev.old) (D.state dev.new) }
@@ -134,12 +127,12 @@ impl ThinDump {
 pub struct TextOfPool;
 
 impl Query for TextOfPool {
-    ghost use Rattle.std.specs.Prelude.{◌≡◌, ◌≤◌};
+    ghost use Rattle.std.specs.Prelude.{◌≡◌};
     ghost use Rattle.pd_kinds.specs.declared.kind.Kind.TheVariants.{Thin};
     ghost use Rattle.pd_kinds.specs.Meaning.{thin_meaning};
     ghost use Rattle.pd_spells.specs.ThinText.{text_of_pool};
     ghost use Rattle.pd_query.specs.Sound.{IfSound};
-    ghost use Rattle.pd_query.specs.ThinDump.{dump_room, text_left};
+    ghost use Rattle.pd_query.specs.ThinDump.{text_left};
 
     type Started = ThinDump;
 
@@ -147,8 +140,7 @@ impl Query for TextOfPool {
 
     ghost answer = { λ query image. text_of_pool (thin_meaning image) };
 
-    ghost IsOver = { λ query dump held blocks. (dump_room dump ≤ blocks)
-        × IfSound Thin held (λ image. text_left image dump ≡ text_of_pool (thin_meaning image)) };
+    ghost IsOver = { λ query dump held. IfSound Thin held (λ image. text_left image dump ≡ text_of_pool (thin_meaning image)) };
 
     fn start<D: Device>(&self, alloc: Global, dev: &mut D) -> Result<ThinDump, QueryFault> {
         ThinDump::start(alloc, dev)

@@ -7,18 +7,18 @@ ghost use Rattle.pd_kinds.specs.Graph.{block_at};
 ghost use Rattle.pd_kinds.specs.ThinSuper.{thin_fields};
 ghost use Rattle.pd_image.specs.Device.{IsAttached, OnlyReads};
 ghost use Rattle.pd_lines.specs.Printer.{printing};
-ghost use Rattle.pd_thin_meaning.specs.Devices.{rows_left, rows_room};
-ghost use Rattle.pd_thin_meaning.specs.Runs.{runs_below, runs_left, runs_room};
+ghost use Rattle.pd_thin_meaning.specs.Devices.{rows_left};
+ghost use Rattle.pd_thin_meaning.specs.Runs.{runs_below, runs_left};
 ghost use Rattle.pd_spells.specs.ThinText as p;
 ghost use Rattle.pd_spells.specs.ThinText.{thin};
 ghost use Rattle.pd_texts.specs.Printed.{text_of_line};
-ghost use Rattle.pd_thin_meaning.specs.Given.{row_lines, super_head, super_rows};
+ghost use Rattle.pd_thin_meaning.specs.Given.{row_lines, super_head};
 ghost use Rattle.pd_thin_meaning.specs.Joined.{spelled};
 ghost use Rattle.pd_texts.specs.ThinLine.{line_of};
 ghost use Rattle.pd_query.specs.Puts.{PrintsSome};
 ghost use Rattle.pd_query.specs.Counts.{CountsSome};
 ghost use Rattle.pd_query.specs.Failing.{Fails};
-ghost use Rattle.pd_query.specs.ThinText.{given_text, rest_text, row_text, rows_text, some_room, some_rows};
+ghost use Rattle.pd_query.specs.ThinText.{given_text, rest_text, row_text, rows_text};
 
 use crate::counts::DumpCounts;
 use crate::fault::QueryFault;
@@ -29,7 +29,6 @@ use pd_lines::Printer;
 use pd_supers::read_thin_super;
 use pd_texts::{Run2, ThinLine};
 use pd_thin_meaning::{DeviceRow, MapRuns, Run, ThinDevices};
-use std::alloc::{AllocError, Global};
 
 /// The line of a pool.
 pub(crate) fn pool_line(s: &ThinSuper) -> ThinLine
@@ -65,7 +64,6 @@ fn add_runs<D: Device, K: Sink>(
 ) -> Result<(), QueryFault>
     requires dev { IsAttached (D.state dev.old) }
     requires open { (K.state printer.old.out.now).access ≡ 1 }
-    requires within { runs_room runs.old ≤ (D.state dev.old).blocks }
     ensures same_reference { printer.new.out.ghost_name ≡ printer.old.out.ghost_name }
     ensures prints { PrintsSome (D.state dev.old).held (λ image. given_text (runs_left image runs.old)) result (printing K.state printer.old) (printing K.state printer.new) }
     ensures counted { OnOk result (CountsSome (D.state dev.old).held (λ image. map p.map_line (map spelled (runs_left image runs.old))) counts.old counts.new) }
@@ -84,7 +82,7 @@ fn add_runs<D: Device, K: Sink>(
     }
 }
 
-/// Prints the map lines of the runs below a root. There are none below a block outside of the device.
+/// Prints the map lines of the runs below a root.
 pub(crate) fn add_runs_of<D: Device, K: Sink>(
     root: u64,
     runs: &mut MapRuns,
@@ -100,9 +98,6 @@ pub(crate) fn add_runs_of<D: Device, K: Sink>(
     ensures kept { OnlyReads (D.state dev.old) (D.state dev.new) }
     ensures faults { Fails result (D.state dev.old).faults (D.state dev.new).faults (K.state printer.old.out.now).faults (K.state printer.new.out.now).faults }
 {
-    if root >= dev.blocks() {
-        return Ok(());
-    }
     runs.restart(root);
     add_runs(runs, dev, printer, counts)
 }
@@ -141,7 +136,6 @@ fn add_devices<D: Device, K: Sink>(
 ) -> Result<(), QueryFault>
     requires dev { IsAttached (D.state dev.old) }
     requires open { (K.state printer.old.out.now).access ≡ 1 }
-    requires within { rows_room devices.old ≤ (D.state dev.old).blocks }
     ensures same_reference { printer.new.out.ghost_name ≡ printer.old.out.ghost_name }
     ensures prints { PrintsSome (D.state dev.old).held (λ image. rows_text image (rows_left image devices.old)) result (printing K.state printer.old) (printing K.state printer.new) }
     ensures counted { OnOk result (CountsSome (D.state dev.old).held (λ image. flat_map (row_lines image) (rows_left image devices.old)) counts.old counts.new) }
@@ -160,33 +154,10 @@ fn add_devices<D: Device, K: Sink>(
     }
 }
 
-/// Prints the lines of the devices that are left, if there are any.
-fn add_some_devices<D: Device, K: Sink>(
-    devices: &mut Option<ThinDevices>,
-    runs: &mut MapRuns,
-    dev: &mut D,
-    printer: &mut Printer<'_, K>,
-    counts: &mut DumpCounts,
-) -> Result<(), QueryFault>
-    requires dev { IsAttached (D.state dev.old) }
-    requires open { (K.state printer.old.out.now).access ≡ 1 }
-    requires within { some_room devices.old ≤ (D.state dev.old).blocks }
-    ensures same_reference { printer.new.out.ghost_name ≡ printer.old.out.ghost_name }
-    ensures prints { PrintsSome (D.state dev.old).held (λ image. rows_text image (some_rows image devices.old)) result (printing K.state printer.old) (printing K.state printer.new) }
-    ensures counted { OnOk result (CountsSome (D.state dev.old).held (λ image. flat_map (row_lines image) (some_rows image devices.old)) counts.old counts.new) }
-    ensures kept { OnlyReads (D.state dev.old) (D.state dev.new) }
-    ensures faults { Fails result (D.state dev.old).faults (D.state dev.new).faults (K.state printer.old.out.now).faults (K.state printer.new.out.now).faults }
-{
-    match devices {
-        Some(devices) => add_devices(devices, runs, dev, printer, counts),
-        None => Ok(()),
-    }
-}
-
 /// Prints the lines of a pool, from the first one to the last.
 pub(crate) fn add_pool<D: Device, K: Sink>(
     s: &ThinSuper,
-    devices: &mut Option<ThinDevices>,
+    devices: &mut ThinDevices,
     runs: &mut MapRuns,
     dev: &mut D,
     printer: &mut Printer<'_, K>,
@@ -194,38 +165,16 @@ pub(crate) fn add_pool<D: Device, K: Sink>(
 ) -> Result<(), QueryFault>
     requires dev { IsAttached (D.state dev.old) }
     requires open { (K.state printer.old.out.now).access ≡ 1 }
-    requires within { some_room devices.old ≤ (D.state dev.old).blocks }
     ensures same_reference { printer.new.out.ghost_name ≡ printer.old.out.ghost_name }
     ensures prints { PrintsSome (D.state dev.old).held (λ image. text_of_line thin p.first_line ++ (text_of_line thin (p.pool_line (super_head s.now)) ++ rest_text image devices.old)) result (printing K.state printer.old) (printing K.state printer.new) }
-    ensures counted { OnOk result (CountsSome (D.state dev.old).held (λ image. p.first_line ∷ (p.pool_line (super_head s.now) ∷ (flat_map (row_lines image) (some_rows image devices.old) ++ (p.end_line ∷ [])))) counts.old counts.new) }
+    ensures counted { OnOk result (CountsSome (D.state dev.old).held (λ image. p.first_line ∷ (p.pool_line (super_head s.now) ∷ (flat_map (row_lines image) (rows_left image devices.old) ++ (p.end_line ∷ [])))) counts.old counts.new) }
     ensures kept { OnlyReads (D.state dev.old) (D.state dev.new) }
     ensures faults { Fails result (D.state dev.old).faults (D.state dev.new).faults (K.state printer.old.out.now).faults (K.state printer.new.out.now).faults }
 {
     add_first_line(printer, counts)?;
     add_line(&pool_line(s), printer, counts)?;
-    add_some_devices(devices, runs, dev, printer, counts)?;
+    add_devices(devices, runs, dev, printer, counts)?;
     add_end_line(printer, counts)
-}
-
-/// The devices of the pool with this superblock, in a device of so many blocks; none where a root is outside of it.
-///
-/// Fails with `AllocError` where the memory for two cursors wasn't found.
-pub fn devices_of(
-    alloc: Global,
-    s: &ThinSuper,
-    blocks: u64,
-) -> Result<Option<ThinDevices>, AllocError>
-    ensures rows { (image : List (List ℕ)) → length image ≡ blocks → IfOk result (λ devices. some_rows image devices ≡ super_rows image s.now) }
-    ensures room { IfOk result (λ devices. some_room devices ≤ blocks) }
-{
-    if s.mapping_root >= blocks {
-        return Ok(None);
-    }
-    if s.details_root >= blocks {
-        return Ok(None);
-    }
-    let devices = ThinDevices::start(alloc, s)?;
-    Ok(Some(devices))
 }
 
 /// The superblock of the pool on a device; of a device without blocks, some superblock.

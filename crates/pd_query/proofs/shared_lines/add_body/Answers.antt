@@ -11,17 +11,17 @@ use Rattle.pd_query.proofs.shared_lines.add_body.Goals as goal
 pub returns-in_err-add_leaves-clause-prints : goal.returns-in_err-add_leaves-clause-prints
 returns-in_err-add_leaves-clause-prints g c =
     let held = (g.D.Device.state c.args.dev.now).held in
-    let sharing = c.in-Some.sharing in
+    let sharing = c.args.sharing.now in
     let shared = shared_blocks sharing.shared in
-    rw c.in-Some.is (lost_with held c.from_residual.result c.from_residual.ensures.0
+    lost_with held c.from_residual.result c.from_residual.ensures.0
     (first_lost held (λ image. text_of_lines thin (flat_map (sharing_lines shared image) (rows_left image sharing.devices)))
-    (λ image. leaves_first shared image (rows_left image sharing.devices)) c.in_err-add_leaves.ensures.prints))
+    (λ image. leaves_first shared image (rows_left image sharing.devices)) c.in_err-add_leaves.ensures.prints)
 
 pub returns-clause-prints : goal.returns-clause-prints
 returns-clause-prints g c =
     let held = (g.D.Device.state c.args.dev.now).held in
-    let sharing = c.in-Some.sharing in
+    let sharing = c.args.sharing.now in
     let shared = shared_blocks sharing.shared in
-    rw c.in-Some.is (some_then held c.add_sharing_devices.result
+    some_then held c.add_sharing_devices.result
     (λ image. leaves_first shared image (rows_left image sharing.devices)) c.in_ok-add_leaves.ensures.prints
-    (rw c.in_ok-add_leaves.ensures.kept.held at c.add_sharing_devices.ensures.prints))
+    (rw c.in_ok-add_leaves.ensures.kept.held at c.add_sharing_devices.ensures.prints)

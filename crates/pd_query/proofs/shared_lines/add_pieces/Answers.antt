@@ -1,4 +1,4 @@
-use Rattle.std.proofs.Common.{Some, None, Err, IfSome, map, ap, ◌∙◌, subst, arith}
+use Rattle.std.proofs.Common.{Some, None, Err, IfSome, map, ap, ◌∙◌, subst}
 use Rattle.pd_grammar.specs.Texts.{text_of_lines}
 use Rattle.pd_image.proofs.ReadLemmas.{only_reads_both}
 use Rattle.pd_spells.specs.ThinText.{thin}
@@ -37,8 +37,6 @@ returns-in-None-clause-prints g c =
 pub loop-piece-preserved : goal.loop-piece-preserved
 loop-piece-preserved g c =
     let shared = shared_blocks c.args.shared.now in
-    let before = c.loop-piece.invariant.room in
-    let room = c.in-Ok.ensures.room in
     record {
       same_reference = c.in_ok-print_piece-in-Some.ensures.same_reference ∙ c.loop-piece.invariant.same_reference;
       so_far = so_far_more (g.D.Device.state c.args.dev.now).held {E = QueryFault} c.loop-piece.invariant.so_far
@@ -46,7 +44,6 @@ loop-piece-preserved g c =
           (subst (λ o. IfSome o (λ image. IsNext {X = Piece} (Some c.in-Some.piece) (pieces_left shared image c.loop-piece.pieces) (pieces_left shared image c.next.new.self))) c.loop-piece.invariant.kept.held
           (rw c.in-Some.is at c.in-Ok.ensures.next)))
           (prints_known (g.D.Device.state c.args.dev.now).held c.in_ok-print_piece-in-Some.ensures.prints);
-      room = omega arith;
       kept = only_reads_both c.loop-piece.invariant.kept c.in-Ok.ensures.kept;
       dev_faults = c.in-Ok.ensures.faults ∙ c.loop-piece.invariant.dev_faults;
       out_faults = c.in_ok-print_piece-in-Some.ensures.faults ∙ c.loop-piece.invariant.out_faults;

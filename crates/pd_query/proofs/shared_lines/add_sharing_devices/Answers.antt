@@ -1,4 +1,4 @@
-use Rattle.std.proofs.Common.{Some, None, IfSome, ap, ◌∙◌, subst, arith}
+use Rattle.std.proofs.Common.{Some, None, IfSome, ap, ◌∙◌, subst}
 use Rattle.std.specs.List.{flat_map}
 use Rattle.pd_grammar.specs.Texts.{text_of_lines}
 use Rattle.pd_image.proofs.ReadLemmas.{only_reads_both}
@@ -37,8 +37,6 @@ returns-in-None-clause-prints g c =
 pub loop-row-preserved : goal.loop-row-preserved
 loop-row-preserved g c =
     let shared = shared_blocks c.args.shared.now in
-    let before = c.loop-row.invariant.room in
-    let room = c.in-Ok.ensures.room in
     record {
       same_reference = c.in_ok-add_sharing_device-in-Some.ensures.same_reference ∙ c.loop-row.invariant.same_reference;
       so_far = so_far_more (g.D.Device.state c.args.dev.now).held c.loop-row.invariant.so_far
@@ -46,7 +44,6 @@ loop-row-preserved g c =
           (subst (λ o. IfSome o (λ image. IsNext {X = DeviceRow} (Some c.in-Some.row) (rows_left image c.loop-row.devices) (rows_left image c.next.new.self))) c.loop-row.invariant.kept.held
           (rw c.in-Some.is at c.in-Ok.ensures.next)))
           (rw (only_reads_both c.loop-row.invariant.kept c.in-Ok.ensures.kept).held at c.in_ok-add_sharing_device-in-Some.ensures.prints);
-      room = omega arith;
       kept = only_reads_both (only_reads_both c.loop-row.invariant.kept c.in-Ok.ensures.kept) c.in_ok-add_sharing_device-in-Some.ensures.kept;
       dev_faults = c.in_ok-add_sharing_device-in-Some.ensures.faults.0 ∙ (c.in-Ok.ensures.faults ∙ c.loop-row.invariant.dev_faults);
       out_faults = c.in_ok-add_sharing_device-in-Some.ensures.faults.1 ∙ c.loop-row.invariant.out_faults;

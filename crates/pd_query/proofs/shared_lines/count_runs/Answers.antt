@@ -15,8 +15,6 @@ returns-in-None-clause-entries g c =
 
 pub loop-run-preserved : goal.loop-run-preserved
 loop-run-preserved g c =
-    let before = c.loop-run.invariant.room in
-    let room = c.in_ok-run.ensures.room in
     let sum = c.saturating_add-entries.ensures in
     record {
       counted = two_told (g.D.Device.state c.args.dev.now).held
@@ -24,7 +22,6 @@ loop-run-preserved g c =
           (subst (λ o. IfSome o (λ image. IsNext {X = Run} (Some c.in-Some.run') (runs_left image c.loop-run.runs) (runs_left image c.next.new.self))) c.loop-run.invariant.kept.held
           (rw c.in-Some.is at c.in_ok-run.ensures.next));
       fits = omega arith;
-      room = omega arith;
       kept = only_reads_both c.loop-run.invariant.kept c.in_ok-run.ensures.kept;
       dev_faults = c.in_ok-run.ensures.faults ∙ c.loop-run.invariant.dev_faults;
     }

@@ -1,4 +1,4 @@
-use Rattle.std.proofs.Common.{Some, None, IfSome, ap, ◌∙◌, subst, arith}
+use Rattle.std.proofs.Common.{Some, None, IfSome, ap, ◌∙◌, subst}
 use Rattle.pd_image.proofs.ReadLemmas.{only_reads_both}
 use Rattle.pd_tree.specs.Next.{IsNext}
 use Rattle.pd_thin_meaning.specs.declared.devices.DeviceRow.{DeviceRow}
@@ -33,8 +33,6 @@ returns-in-None-clause-prints g c =
 
 pub loop-row-preserved : goal.loop-row-preserved
 loop-row-preserved g c =
-    let before = c.loop-row.invariant.room in
-    let room = c.in-Ok.ensures.room in
     record {
       same_reference = c.in_ok-add_device-in-Some.ensures.same_reference ∙ c.loop-row.invariant.same_reference;
       so_far = so_far_more (g.D.Device.state c.args.dev.now).held c.loop-row.invariant.so_far
@@ -48,7 +46,6 @@ loop-row-preserved g c =
           (subst (λ o. IfSome o (λ image. IsNext {X = DeviceRow} (Some c.in-Some.row) (rows_left image c.loop-row.devices) (rows_left image c.next.new.self))) c.loop-row.invariant.kept.held
           (rw c.in-Some.is at c.in-Ok.ensures.next)))
           (rw (only_reads_both c.loop-row.invariant.kept c.in-Ok.ensures.kept).held at c.in_ok-add_device-in-Some.ensures.counted);
-      room = omega arith;
       kept = only_reads_both (only_reads_both c.loop-row.invariant.kept c.in-Ok.ensures.kept) c.in_ok-add_device-in-Some.ensures.kept;
       dev_faults = c.in_ok-add_device-in-Some.ensures.faults.0 ∙ (c.in-Ok.ensures.faults ∙ c.loop-row.invariant.dev_faults);
       out_faults = c.in_ok-add_device-in-Some.ensures.faults.1 ∙ c.loop-row.invariant.out_faults;

@@ -1,4 +1,4 @@
-use Rattle.std.proofs.Common.{Some, None, Err, IfSome, ap, ◌∙◌, subst, arith}
+use Rattle.std.proofs.Common.{Some, None, Err, IfSome, ap, ◌∙◌, subst}
 use Rattle.pd_image.proofs.ReadLemmas.{only_reads_both}
 use Rattle.pd_tree.specs.Next.{IsNext}
 use Rattle.pd_thin_meaning.specs.declared.joined.Run.{Run}
@@ -35,8 +35,6 @@ returns-in-None-clause-prints g c =
 
 pub loop-run-preserved : goal.loop-run-preserved
 loop-run-preserved g c =
-    let before = c.loop-run.invariant.room in
-    let room = c.in-Ok.ensures.room in
     record {
       same_reference = c.in_ok-add_line-in-Some.ensures.same_reference ∙ c.loop-run.invariant.same_reference;
       so_far = so_far_more (g.D.Device.state c.args.dev.now).held {E = QueryFault} c.loop-run.invariant.so_far
@@ -50,7 +48,6 @@ loop-run-preserved g c =
           (subst (λ o. IfSome o (λ image. IsNext {X = Run} (Some c.in-Some.run') (runs_left image c.loop-run.runs) (runs_left image c.next.new.self))) c.loop-run.invariant.kept.held
           (rw c.in-Some.is at c.in-Ok.ensures.next)))
           (counts_line (g.D.Device.state c.args.dev.now).held (map_line (spelled c.in-Some.run')) (rw c.map_line.ensures at c.in_ok-add_line-in-Some.ensures.counted));
-      room = omega arith;
       kept = only_reads_both c.loop-run.invariant.kept c.in-Ok.ensures.kept;
       dev_faults = c.in-Ok.ensures.faults ∙ c.loop-run.invariant.dev_faults;
       out_faults = c.in_ok-add_line-in-Some.ensures.faults ∙ c.loop-run.invariant.out_faults;

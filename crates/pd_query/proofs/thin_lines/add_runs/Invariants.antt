@@ -1,7 +1,7 @@
-use Rattle.std.proofs.Common.{◌≡◌, ◌≤◌, map}
+use Rattle.std.proofs.Common.{◌≡◌, map}
 use Rattle.pd_image.specs.Device.{OnlyReads}
 use Rattle.pd_lines.specs.Printer.{printing}
-use Rattle.pd_thin_meaning.specs.Runs.{runs_left, runs_number, runs_room}
+use Rattle.pd_thin_meaning.specs.Runs.{runs_left, runs_number}
 use Rattle.pd_query.specs.ThinText.{given_text}
 use Rattle.pd_spells.specs.ThinText.{map_line}
 use Rattle.pd_thin_meaning.specs.Joined.{spelled}
@@ -15,7 +15,6 @@ invariant-loop-run g l = record {
   so_far : PrintsSoFar (g.D.Device.state l.initial.dev).held (λ image. given_text (runs_left image l.initial.runs)) (λ image. given_text (runs_left image l.runs))
       (printing g.K.Sink.state l.initial.printer) (printing g.K.Sink.state l.printer);
   counted : CountsSoFar (g.D.Device.state l.initial.dev).held (λ image. map map_line (map spelled (runs_left image l.initial.runs))) (λ image. map map_line (map spelled (runs_left image l.runs))) l.initial.counts l.counts;
-  room : runs_room l.runs ≤ runs_room l.initial.runs;
   kept : OnlyReads (g.D.Device.state l.initial.dev) (g.D.Device.state l.dev);
   dev_faults : (g.D.Device.state l.dev).faults ≡ (g.D.Device.state l.initial.dev).faults;
   out_faults : (g.K.Sink.state l.printer.out.now).faults ≡ (g.K.Sink.state l.initial.printer.out.now).faults;
