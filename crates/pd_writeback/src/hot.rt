@@ -35,10 +35,7 @@ pub(crate) fn find_hot<A: Device>(
     ensures kept { OnlyReads (A.state meta.old) (A.state meta.new) }
     ensures faults { CountsMeta result (A.state meta.old).faults (A.state meta.new).faults }
 {
-    let mut maps = match CacheMaps::start(alloc, s) {
-        Ok(maps) => maps,
-        Err(_) => return Err(WriteFault::Memory),
-    };
+    let mut maps = CacheMaps::start(alloc, s)?;
     gather(alloc, &mut maps, s.flags % 2 == 1, meta)
 }
 
@@ -62,10 +59,7 @@ fn gather<A: Device>(
             Err(_) => return Err(WriteFault::Meta),
         };
         match row {
-            Some(row) => match add_if_hot(&mut hot, row.block, row.origin, row.dirty | !clean) {
-                Ok(()) => {}
-                Err(_) => return Err(WriteFault::Memory),
-            },
+            Some(row) => add_if_hot(&mut hot, row.block, row.origin, row.dirty | !clean)?,
             None => return Ok(hot),
         }
     }

@@ -26,10 +26,7 @@ pub(crate) fn read_super<A: Device>(alloc: Global, meta: &mut A) -> Result<Box<B
     ensures kept { OnlyReads (A.state meta.old) (A.state meta.new) }
     ensures faults { CountsMeta result (A.state meta.old).faults (A.state meta.new).faults }
 {
-    let mut block = match Box::new(alloc, Block::zeros()) {
-        Ok(block) => block,
-        Err(_) => return Err(WriteFault::Memory),
-    };
+    let mut block = Box::new(alloc, Block::zeros())?;
     match meta.read(0, &mut block) {
         Ok(()) => Ok(block),
         Err(_) => Err(WriteFault::Meta),

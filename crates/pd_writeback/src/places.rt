@@ -32,10 +32,7 @@ pub(crate) fn find_places<A: Device>(
     ensures faults { CountsMeta result (A.state meta.old).faults (A.state meta.new).faults }
 {
     let seen = see_named(alloc, root, meta)?;
-    match ascending(alloc, seen.as_slice()) {
-        Ok(places) => Ok(places),
-        Err(_) => Err(WriteFault::Memory),
-    }
+    Ok(ascending(alloc, seen.as_slice())?)
 }
 
 /// Of each block of the metadata, whether an entry of the tree with this root names it; block 0 is left out.
@@ -48,10 +45,8 @@ fn see_named<A: Device>(alloc: Global, root: u64, meta: &mut A) -> Result<Vec<bo
     ensures kept { OnlyReads (A.state meta.old) (A.state meta.new) }
     ensures faults { CountsMeta result (A.state meta.old).faults (A.state meta.new).faults }
 {
-    let (mut seen, mut entries) = match room_for(alloc, meta.blocks().min(MAX_META_BLOCKS), root) {
-        Ok(room) => room,
-        Err(_) => return Err(WriteFault::Memory),
-    };
+    let blocks = meta.blocks().min(MAX_META_BLOCKS);
+    let (mut seen, mut entries) = room_for(alloc, blocks, root)?;
     match mark_named(&mut entries, seen.as_mut_slice(), meta) {
         Ok(()) => Ok(seen),
         Err(_) => Err(WriteFault::Meta),

@@ -19,7 +19,7 @@ loop-row-preserved g c =
     record {
       hot = if_both (g.A.Device.state c.args.meta.now).held
           (λ image held so_far next.
-          ap (λ (cs : List CachedBlock). cs ++ hot_rows c.args.clean (rows_left image c.next.new.self)) c.in-Ok-add_if_hot.ensures
+          ap (λ (cs : List CachedBlock). cs ++ hot_rows c.args.clean (rows_left image c.next.new.self)) c.in_ok-add_if_hot-in-Some.ensures
           ∙ hot_next c.args.clean c.in-Some.row _ _ (rows_left image c.loop-row.maps) (rows_left image c.next.new.self) so_far next)
           before.hot taken;
       room = omega arith;
