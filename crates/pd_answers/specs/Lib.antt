@@ -1,5 +1,6 @@
 pub mod QueryLines
 pub mod Requests
+pub mod Tools
 pub mod Words
 pub mod Generated
 pub mod SearchLines

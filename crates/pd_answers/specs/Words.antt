@@ -1,6 +1,6 @@
 -- Trusted base.
 -- What the words of a command line ask for.
-use Rattle.std.specs.Prelude.{ℕ, Bool, true, false, ◌==◌, ◌^◌, ◌+◌, nat_lt, not, ◌&&◌, if◌then◌else◌, List, [], ◌∷◌, length, drop, Option, Some, None, codes, decimal}
+use Rattle.std.specs.Prelude.{ℕ, Bool, true, false, ◌==◌, ◌^◌, nat_lt, not, ◌&&◌, if◌then◌else◌, List, [], ◌∷◌, length, drop, Option, Some, None, codes, decimal}
 use Rattle.std.specs.List.{list_any, list_all, filter_map, take_while}
 use Rattle.std.specs.Option.{option_and_then}
 use Rattle.std.specs.Str.{bytes_eq}
@@ -14,6 +14,8 @@ use Rattle.pd_kinds.specs.declared.kind.Passing.TheVariants.{Nothing, Leaks}
 use Rattle.pd_kinds.specs.declared.kind.Stage.{Stage}
 use Rattle.pd_kinds.specs.declared.kind.Stage.TheVariants.{Super, Walk, Order, Whole, Counts}
 use Rattle.pd_answers.specs.QueryLines as ask
+use Rattle.pd_answers.specs.Tools.{Need, Tool, ToolWords, Value, Word, check_tool, dump_tool, restore_tool, repair_tool, rmap_tool, device_list_tool, since_tool, generate_tool, rehearse_tool, writeback_tool, shrink_tool, tools, image_word, until_word, passing_word, clear_word, file_word, shared_word, region_word, since_word, text_word, input_word, output_word, version_word, number_word, transaction_word, block_size_word, data_blocks_word, metadata_word, fast_word, origin_word, data_word, blocks_word}
+use Rattle.pd_answers.specs.Tools as table
 use Rattle.pd_answers.specs.Requests.{Request, check, passing_check, check_and_clear, query, restore, repair, search, generate, rehearse, writeback, shrink}
 
 -- the next step needs the value of this one
@@ -26,26 +28,24 @@ abbrev pub is_value : List ℕ → Bool
 is_value [] = false
 is_value (first ∷ rest) = not (first == 45)
 
--- the option that names the last stage of a check
-abbrev pub until_word : List ℕ
-until_word = codes "--until"
+-- whether a word has no value
+abbrev pub is_flag_need : Need → Bool
+is_flag_need table.flag = true
+is_flag_need (table.wanted value) = false
+is_flag_need (table.optional value) = false
+is_flag_need (table.together value) = false
 
--- the words of the flags, which have no value
-abbrev pub clear_word : List ℕ
-clear_word = codes "--clear-needs-check-flag"
+-- whether a word has this name
+abbrev pub is_named : List ℕ → Word → Bool
+is_named name word = bytes_eq name word.name
 
-abbrev pub passing_word : List ℕ
-passing_word = codes "--ignore-non-fatal-errors"
+-- whether it is a flag of this name
+abbrev pub is_named_flag : List ℕ → Word → Bool
+is_named_flag name word = is_flag_need word.need && is_named name word
 
-abbrev pub shared_word : List ℕ
-shared_word = codes "--shared"
-
+-- whether a word is a flag's of a tool
 unfoldable pub is_flag : List ℕ → Bool
-is_flag word = list_any (bytes_eq word) (clear_word ∷ passing_word ∷ shared_word ∷ [])
-
--- what an operand is given for, which is no option's word
-abbrev pub image_word : List ℕ
-image_word = codes "IMAGE"
+is_flag name = list_any (λ (row : ToolWords). list_any (is_named_flag name) row.words) tools
 
 -- a word that was given, and for what: the value of an option for the option's word, the operand for `IMAGE`, and a
 -- flag's word for itself
@@ -63,11 +63,11 @@ more purpose value (Some items) = Some (record { purpose = purpose; value = valu
 unfoldable pub items_of : List (List ℕ) → Option (List Item)
 items_of [] = Some []
 items_of (word ∷ []) =
-    if is_value word then more image_word word (Some [])
+    if is_value word then more image_word.name word (Some [])
     else if is_flag word then more word word (Some [])
     else None
 items_of (word ∷ next ∷ words) =
-    if is_value word then more image_word word (items_of (next ∷ words))
+    if is_value word then more image_word.name word (items_of (next ∷ words))
     else if is_flag word then more word word (items_of (next ∷ words))
     else if is_value next then more word next (items_of words)
     else None
@@ -108,15 +108,6 @@ is_set never = Some false
 is_set (once value) = Some true
 is_set often = None
 
-abbrev pub required : List ℕ → List Item → Option (List ℕ)
-required purpose items = single_value (given purpose items)
-
-abbrev pub optional : List ℕ → List Item → Option (Option (List ℕ))
-optional purpose items = at_most_one (given purpose items)
-
-abbrev pub flag : List ℕ → List Item → Option Bool
-flag purpose items = is_set (given purpose items)
-
 -- the number that a word is in decimal, without leading zeros, if it is below the bound
 unfoldable pub number_below : ℕ → List ℕ → Option ℕ
 number_below bound word =
@@ -147,7 +138,7 @@ region_of word =
       end ← number_below (2 ^ 64) rest
       if nat_lt end first then None else Some (record { first = first; end = end })
 
--- the stage that a word names; without a word it is the last one
+-- the stage that a word names
 unfoldable pub stage_of : List ℕ → Option Stage
 stage_of word =
     if bytes_eq word (codes "super") then Some Super
@@ -157,9 +148,10 @@ stage_of word =
     else if bytes_eq word (codes "counts") then Some Counts
     else None
 
-abbrev pub last_stage : Option (List ℕ) → Option Stage
-last_stage None = Some Counts
-last_stage (Some word) = stage_of word
+-- without a word it is the last one
+abbrev pub stage_or_last : Option Stage → Stage
+stage_or_last None = Counts
+stage_or_last (Some until) = until
 
 -- the version of a cache's metadata that a word names; without a word it is the first one
 unfoldable pub version_of : Option (List ℕ) → Option ℕ
@@ -169,74 +161,60 @@ version_of (Some word) =
     else if bytes_eq word (codes "2") then Some 2
     else None
 
--- the tools
-pub data Tool : Type 0 where
-  check_tool : Kind → Tool
-  dump_tool : Kind → Tool
-  restore_tool : Kind → Tool
-  repair_tool : Tool
-  rmap_tool : Tool
-  device_list_tool : Tool
-  since_tool : Tool
-  generate_tool : Tool
-  rehearse_tool : Tool
-  writeback_tool : Tool
-  shrink_tool : Tool
+abbrev pub version_or_first : Option ℕ → ℕ
+version_or_first None = 1
+version_or_first (Some version) = version
 
--- a tool and its name
-pub record Named : Type 0 where
-  pub name : List ℕ
-  pub tool : Tool
+-- what a value is
+abbrev pub Meant : Value → Type 0
+Meant table.file = List ℕ
+Meant table.device = List ℕ
+Meant table.stage = Stage
+Meant table.version = ℕ
+Meant table.region = Region
+Meant (table.below bound) = ℕ
+Meant table.generated = ℕ
 
-abbrev pub tools : List Named
-tools =
-    record { name = codes "thin_check"; tool = check_tool Thin }
-    ∷ record { name = codes "cache_check"; tool = check_tool Cache }
-    ∷ record { name = codes "era_check"; tool = check_tool Era }
-    ∷ record { name = codes "thin_dump"; tool = dump_tool Thin }
-    ∷ record { name = codes "cache_dump"; tool = dump_tool Cache }
-    ∷ record { name = codes "era_dump"; tool = dump_tool Era }
-    ∷ record { name = codes "thin_restore"; tool = restore_tool Thin }
-    ∷ record { name = codes "cache_restore"; tool = restore_tool Cache }
-    ∷ record { name = codes "era_restore"; tool = restore_tool Era }
-    ∷ record { name = codes "thin_repair"; tool = repair_tool }
-    ∷ record { name = codes "thin_rmap"; tool = rmap_tool }
-    ∷ record { name = codes "thin_ls"; tool = device_list_tool }
-    ∷ record { name = codes "era_invalidate"; tool = since_tool }
-    ∷ record { name = codes "thin_generate"; tool = generate_tool }
-    ∷ record { name = codes "thin_rehearse"; tool = rehearse_tool }
-    ∷ record { name = codes "cache_writeback"; tool = writeback_tool }
-    ∷ record { name = codes "thin_shrink"; tool = shrink_tool }
-    ∷ []
+-- and what the word says that gives it
+abbrev pub meant : (value : Value) → List ℕ → Option (Meant value)
+meant table.file word = Some word
+meant table.device word = Some word
+meant table.stage word = stage_of word
+meant table.version word = version_of (Some word)
+meant table.region word = region_of word
+meant (table.below bound) word = number_below bound word
+meant table.generated word = generated_number word
+
+abbrev pub meant_if_any : (value : Value) → Option (List ℕ) → Option (Option (Meant value))
+meant_if_any value None = Some None
+meant_if_any value (Some word) = do
+  read ← meant value word
+  Some (Some read)
+
+-- what a word of the table says: whether a flag is set, or a value
+abbrev pub Told : Need → Type 0
+Told table.flag = Bool
+Told (table.wanted value) = Meant value
+Told (table.optional value) = Option (Meant value)
+Told (table.together value) = Option (Meant value)
+
+abbrev pub told_by : (need : Need) → Given → Option (Told need)
+told_by table.flag times = is_set times
+told_by (table.wanted value) times = single_value times >>= meant value
+told_by (table.optional value) times = at_most_one times >>= meant_if_any value
+told_by (table.together value) times = at_most_one times >>= meant_if_any value
+
+-- what the items say for it
+abbrev pub told : (word : Word) → List Item → Option (Told word.need)
+told word items = told_by word.need (given word.name items)
 
 -- the tool of this name
-unfoldable pub tool_in : List Named → List ℕ → Option Tool
+unfoldable pub tool_in : List ToolWords → List ℕ → Option ToolWords
 tool_in [] word = None
-tool_in (named ∷ others) word = if bytes_eq word named.name then Some named.tool else tool_in others word
+tool_in (row ∷ others) word = if bytes_eq word row.name then Some row else tool_in others word
 
-abbrev pub tool_of : List ℕ → Option Tool
+abbrev pub tool_of : List ℕ → Option ToolWords
 tool_of word = tool_in tools word
-
--- what can be given to each tool
-abbrev pub purposes_of : Tool → List (List ℕ)
-purposes_of (check_tool Thin) = until_word ∷ passing_word ∷ clear_word ∷ image_word ∷ []
-purposes_of (check_tool Cache) = until_word ∷ passing_word ∷ clear_word ∷ image_word ∷ []
-purposes_of (check_tool Era) = until_word ∷ passing_word ∷ image_word ∷ []
-purposes_of (dump_tool Thin) = shared_word ∷ codes "-o" ∷ image_word ∷ []
-purposes_of (dump_tool Cache) = codes "-o" ∷ image_word ∷ []
-purposes_of (dump_tool Era) = codes "-o" ∷ image_word ∷ []
-purposes_of (restore_tool Thin) = codes "-i" ∷ codes "-o" ∷ []
-purposes_of (restore_tool Cache) = codes "--metadata-version" ∷ codes "-i" ∷ codes "-o" ∷ []
-purposes_of (restore_tool Era) = codes "-i" ∷ codes "-o" ∷ []
-purposes_of repair_tool =
-    codes "-i" ∷ codes "-o" ∷ codes "--transaction-id" ∷ codes "--data-block-size" ∷ codes "--nr-data-blocks" ∷ []
-purposes_of rmap_tool = codes "--region" ∷ codes "-o" ∷ image_word ∷ []
-purposes_of device_list_tool = codes "-o" ∷ image_word ∷ []
-purposes_of since_tool = codes "--written-since" ∷ codes "-o" ∷ image_word ∷ []
-purposes_of generate_tool = codes "--number" ∷ codes "-o" ∷ []
-purposes_of rehearse_tool = codes "--number" ∷ codes "-o" ∷ []
-purposes_of writeback_tool = codes "--metadata-device" ∷ codes "--fast-device" ∷ codes "--origin-device" ∷ []
-purposes_of shrink_tool = codes "-i" ∷ codes "-o" ∷ codes "--data" ∷ codes "--nr-blocks" ∷ []
 
 -- the kinds that have the flag "needs check"
 abbrev pub flagged_of : Kind → Option Flagged
@@ -266,94 +244,83 @@ dump_with Cache true file image = None
 dump_with Era true file image = None
 
 -- with all three numbers of the superblock that is wanting, or none
-abbrev pub repair_with : List ℕ → List ℕ → Option (List ℕ) → Option (List ℕ) → Option (List ℕ) → Option Request
+abbrev pub repair_with : List ℕ → List ℕ → Option ℕ → Option ℕ → Option ℕ → Option Request
 repair_with input output None None None = Some (repair input output)
-repair_with input output (Some transaction_word) (Some size_word) (Some blocks_word) = do
-  transaction ← number_below (2 ^ 64) transaction_word
-  block_size ← number_below (2 ^ 32) size_word
-  blocks ← number_below (2 ^ 40 + 1) blocks_word
-  Some (search input output transaction block_size blocks)
+repair_with input output (Some transaction) (Some block_size) (Some blocks) = Some (search input output transaction block_size blocks)
 repair_with input output _ _ _ = None
 
 -- what the items ask of a tool
 unfoldable pub request_of : Tool → List Item → Option Request
 request_of (check_tool kind) items = do
-  word ← optional until_word items
-  until ← last_stage word
-  leaks ← flag passing_word items
-  clear ← flag clear_word items
-  image ← required image_word items
-  check_with kind until leaks clear image
+  until ← told until_word items
+  leaks ← told passing_word items
+  clear ← told clear_word items
+  image ← told image_word items
+  check_with kind (stage_or_last until) leaks clear image
 request_of (dump_tool kind) items = do
-  shared ← flag shared_word items
-  file ← optional (codes "-o") items
-  image ← required image_word items
+  shared ← told shared_word items
+  file ← told file_word items
+  image ← told image_word items
   dump_with kind shared file image
 request_of (restore_tool kind) items = do
-  word ← optional (codes "--metadata-version") items
-  version ← version_of word
-  text ← required (codes "-i") items
-  image ← required (codes "-o") items
-  Some (restore kind version text image)
+  version ← told version_word items
+  text ← told text_word items
+  image ← told output_word items
+  Some (restore kind (version_or_first version) text image)
 request_of repair_tool items = do
-  input ← required (codes "-i") items
-  output ← required (codes "-o") items
-  transaction ← optional (codes "--transaction-id") items
-  block_size ← optional (codes "--data-block-size") items
-  blocks ← optional (codes "--nr-data-blocks") items
+  input ← told input_word items
+  output ← told output_word items
+  transaction ← told transaction_word items
+  block_size ← told block_size_word items
+  blocks ← told data_blocks_word items
   repair_with input output transaction block_size blocks
 request_of rmap_tool items = do
-  word ← required (codes "--region") items
-  region ← region_of word
-  file ← optional (codes "-o") items
-  image ← required image_word items
+  region ← told region_word items
+  file ← told file_word items
+  image ← told image_word items
   Some (query (ask.reverse_map region.first region.end) file image)
 request_of device_list_tool items = do
-  file ← optional (codes "-o") items
-  image ← required image_word items
+  file ← told file_word items
+  image ← told image_word items
   Some (query ask.device_list file image)
 request_of since_tool items = do
-  word ← required (codes "--written-since") items
-  era ← number_below (2 ^ 32) word
-  file ← optional (codes "-o") items
-  image ← required image_word items
+  era ← told since_word items
+  file ← told file_word items
+  image ← told image_word items
   Some (query (ask.since era) file image)
 request_of generate_tool items = do
-  word ← required (codes "--number") items
-  number ← generated_number word
-  file ← optional (codes "-o") items
+  number ← told number_word items
+  file ← told file_word items
   Some (generate number file)
 request_of rehearse_tool items = do
-  word ← required (codes "--number") items
-  number ← generated_number word
-  image ← required (codes "-o") items
+  number ← told number_word items
+  image ← told output_word items
   Some (rehearse number image)
 request_of writeback_tool items = do
-  metadata ← required (codes "--metadata-device") items
-  fast ← required (codes "--fast-device") items
-  origin ← required (codes "--origin-device") items
+  metadata ← told metadata_word items
+  fast ← told fast_word items
+  origin ← told origin_word items
   Some (writeback metadata fast origin)
 request_of shrink_tool items = do
-  input ← required (codes "-i") items
-  output ← required (codes "-o") items
-  pool ← required (codes "--data") items
-  word ← required (codes "--nr-blocks") items
-  blocks ← number_below (2 ^ 64) word
+  input ← told input_word items
+  output ← told output_word items
+  pool ← told data_word items
+  blocks ← told blocks_word items
   Some (shrink input output pool blocks)
 
--- whether an item can be given to a tool
-abbrev pub is_known : Tool → Item → Bool
-is_known tool item = list_any (bytes_eq item.purpose) (purposes_of tool)
+-- whether an item is given for one of these words
+abbrev pub is_known : List Word → Item → Bool
+is_known words item = list_any (is_named item.purpose) words
 
--- the items, where each of them can be given to the tool
-abbrev pub known : Tool → Option (List Item) → Option (List Item)
-known tool None = None
-known tool (Some items) = if list_all (is_known tool) items then Some items else None
+-- the items, where each of them is
+abbrev pub known : List Word → Option (List Item) → Option (List Item)
+known words None = None
+known words (Some items) = if list_all (is_known words) items then Some items else None
 
 -- what the words ask for, without the program's own name
 unfoldable pub asked : List (List ℕ) → Option Request
 asked [] = None
 asked (word ∷ words) = do
-  tool ← tool_of word
-  items ← known tool (items_of words)
-  request_of tool items
+  row ← tool_of word
+  items ← known row.words (items_of words)
+  request_of row.tool items

@@ -129,10 +129,14 @@ said_numbers_fit words transaction block_size blocks say =
       blocks_fit = omega arith;
     }
 
+first_version : (version : ℕ) → version_of None ≡ Some version → 1 ≡ version
+unfolding version_of
+first_version version is = same_Some 1 version is
+
 pub cache_restore_asked : (word : Option (List ℕ)) (version : ℕ) (file path : List ℕ) → IfSome word IsName → version_of word ≡ Some version → IsName file → IsName path
     → asked (codes "cache_restore" ∷ (in_version word ++ (codes "-i" ∷ file ∷ codes "-o" ∷ path ∷ []))) ≡ Some (restore Cache version file path)
 unfolding is_flag items_of given tool_in request_of asked
-cache_restore_asked None version file path is_word is is_file is_path = rw (is_file, is_path, is) refl
+cache_restore_asked None version file path is_word is is_file is_path = rw (is_file, is_path, ← first_version version is) refl
 cache_restore_asked (Some word) version file path is_word is is_file is_path = rw (is_word, is_file, is_path, is) refl
 
 pub era_invalidate_asked : (word : List ℕ) (era : ℕ) (file : Option (List ℕ)) (image : List ℕ) → IsName word → number_below (2 ^ 32) word ≡ Some era → IfSome file IsName → IsName image

@@ -4,8 +4,9 @@ use Rattle.std.specs.Str.{bytes_eq}
 use Rattle.std.specs.Option.{option_map}
 use Rattle.std.proofs.lemmas.Option.{same_Some}
 use Rattle.std.proofs.lemmas.List.{drop_more, drop_all}
-use Rattle.pd_answers.specs.Words.{is_value, is_flag, Item, image_word, more, items_of, never, once, often, given, given_of, Tool, known}
-use Rattle.pd_words.specs.Items.{values_in, values_from}
+use Rattle.pd_answers.specs.Words.{is_value, is_flag, Item, more, items_of, never, once, often, given, given_of, known}
+use Rattle.pd_answers.specs.Tools.{Word, image_word}
+use Rattle.pd_words.specs.Items.{AreItems, items_in, values_in, values_from}
 
 -- the word of an element
 pub word_is : {X : Type 0} (f : X → List ℕ) (xs : List X) (i : ℕ) (x : X) → i < length xs → x ≡ get_or xs i x → get_or (map f xs) i [] ≡ f x
@@ -13,7 +14,7 @@ word_is f [] i x less is = absurd (omega arith)
 word_is f (y ∷ ys) zero x less is = ap f (sym is)
 word_is f (y ∷ ys) (suc i) x less is = word_is f ys i x (omega arith) is
 
-items-operand : (word : List ℕ) (words : List (List ℕ)) → is_value word ≡ true → items_of (word ∷ words) ≡ more image_word word (items_of words)
+items-operand : (word : List ℕ) (words : List (List ℕ)) → is_value word ≡ true → items_of (word ∷ words) ≡ more image_word.name word (items_of words)
 unfolding items_of
 items-operand word [] e = simp e
 items-operand word (next ∷ words) e = simp e
@@ -34,7 +35,7 @@ items-option word next words e flag = simp (e, flag)
 
 module _ (words : List (List ℕ)) (i : ℕ) (less : i < length words) (word : List ℕ) (is : get_or words i [] ≡ word) where
   -- the word here is the operand
-  pub operand_at : is_value word ≡ true → items_of (drop i words) ≡ more image_word (get_or words i []) (items_of (drop (i + 1) words))
+  pub operand_at : is_value word ≡ true → items_of (drop i words) ≡ more image_word.name (get_or words i []) (items_of (drop (i + 1) words))
   operand_at e = rw (drop_more words i [] less) (items-operand (get_or words i []) (drop (i + 1) words) (rw is e))
 
   -- a flag's
@@ -55,9 +56,9 @@ module _ (words : List (List ℕ)) (i : ℕ) (less : i < length words) (word : L
       (items-option word (get_or words (i + 1) []) (drop (i + 2) words) e flag)
 
 -- what is known at the end of the words
-pub known_end : (tool : Tool) (words : List (List ℕ)) (i : ℕ) → length words ≤ i → true ≡ is_some (known tool (items_of (drop i words)))
+pub known_end : (table : List Word) (words : List (List ℕ)) (i : ℕ) → length words ≤ i → true ≡ is_some (known table (items_of (drop i words)))
 unfolding items_of
-known_end tool words i end = rw (drop_all i words end) refl
+known_end table words i end = rw (drop_all i words end) refl
 
 -- the values that the words from this one on give, where an item stands here, or nothing does
 module _ (words : List (List ℕ)) (purpose : List ℕ) (i : ℕ) where
@@ -88,25 +89,29 @@ module _ (words : List (List ℕ)) (purpose : List ℕ) (i : ℕ) where
       with_more (Some items) = simp e
 
 -- how often something is given, by its values
-pub given_never : (purpose : List ℕ) (items : Option (List Item)) → IfSome (values_in purpose items) (λ vs. vs ≡ []) → IfSome items (λ all. never ≡ given purpose all)
-unfolding given
-given_never purpose None none = tt
-given_never purpose (Some items) none = rw none refl
+module _ (purpose : List ℕ) (words : List (List ℕ)) (are : AreItems words) where
+  abbrev values : Option (List (List ℕ))
+  values = values_in purpose (items_of (drop 1 words))
 
-pub given_once : (purpose : List ℕ) (items : Option (List Item)) (value : List ℕ) (rest : Option (List (List ℕ)))
-    → values_in purpose items ≡ option_map (λ (vs : List (List ℕ)). value ∷ vs) rest → IfSome rest (λ vs. vs ≡ [])
-    → IfSome items (λ all. once value ≡ given purpose all)
-unfolding given
-given_once purpose None value rest first none = tt
-given_once purpose (Some items) value None first none = absurd cc
-given_once purpose (Some items) value (Some rest) first none = sym (ap given_of (same_Some _ _ first ∙ ap (λ (vs : List (List ℕ)). value ∷ vs) none))
+  given_is : (vs : List (List ℕ)) → values ≡ Some vs → given_of vs ≡ given purpose (items_in words)
+  unfolding given
+  given_is vs is = ap given_of (sym (same_Some _ _ (rw are at is)))
 
-pub given_often : (purpose : List ℕ) (items : Option (List Item)) (value other : List ℕ) (more_values rest : Option (List (List ℕ)))
-    → values_in purpose items ≡ option_map (λ (vs : List (List ℕ)). value ∷ vs) more_values
-    → more_values ≡ option_map (λ (vs : List (List ℕ)). other ∷ vs) rest
-    → IfSome items (λ all. often ≡ given purpose all)
-unfolding given
-given_often purpose None value other more_values rest first second = tt
-given_often purpose (Some items) value other None rest first second = absurd cc
-given_often purpose (Some items) value other (Some values) None first second = absurd cc
-given_often purpose (Some items) value other (Some values) (Some rest) first second = sym (ap given_of (same_Some _ _ first ∙ ap (λ (vs : List (List ℕ)). value ∷ vs) (same_Some _ _ second)))
+  pub given_never : IfSome values (λ vs. vs ≡ []) → never ≡ given purpose (items_in words)
+  given_never none = given_is [] (rw are (ap Some (rw are at none)))
+
+  pub given_once : (value : List ℕ) (rest : Option (List (List ℕ))) → values ≡ option_map (λ (vs : List (List ℕ)). value ∷ vs) rest → IfSome rest (λ vs. vs ≡ [])
+      → once value ≡ given purpose (items_in words)
+  given_once value None first none = absurd (some (rw are at first))
+    where
+      some : {X : Type 0} {x : X} → Some x ≡ None → ⊥
+      some e = cc
+  given_once value (Some rest) first none = given_is (value ∷ []) (first ∙ ap (λ (vs : List (List ℕ)). Some (value ∷ vs)) none)
+
+  pub given_often : (value other : List ℕ) (more_values rest : Option (List (List ℕ))) → values ≡ option_map (λ (vs : List (List ℕ)). value ∷ vs) more_values
+      → more_values ≡ option_map (λ (vs : List (List ℕ)). other ∷ vs) rest → often ≡ given purpose (items_in words)
+  given_often value other more_values None first second = absurd (some (rw (are, second) at first))
+    where
+      some : {X : Type 0} {x : X} → Some x ≡ None → ⊥
+      some e = cc
+  given_often value other more_values (Some rest) first second = given_is (value ∷ other ∷ rest) (first ∙ ap (option_map (λ (vs : List (List ℕ)). value ∷ vs)) second)

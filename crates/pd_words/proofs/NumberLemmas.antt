@@ -62,7 +62,7 @@ not_picked v a true true none follows = absurd (some (rw (follows refl) at none)
     some e = cc
 
 -- below a lower bound
-pub none_below : (bound : ℕ) (word : List ℕ) → bound < 2 ^ 64 → None ≡ number_below (2 ^ 64) word → None ≡ number_below bound word
+pub none_below : (bound : ℕ) (word : List ℕ) → bound ≤ 2 ^ 64 → None ≡ number_below (2 ^ 64) word → None ≡ number_below bound word
 unfolding number_below
 none_below bound word small none =
     let n = digits_value 10 word in

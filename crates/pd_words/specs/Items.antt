@@ -1,14 +1,12 @@
 -- What was read of the words, as the definitions speak of it.
 use Rattle.std.specs.Prelude.{◌≡◌, ℕ, ◌<◌, ◌≤◌, List, [], ◌∷◌, drop, get_or, Option, Some, None, IfSome}
 use Rattle.std.specs.List.{filter_map}
-use Rattle.std.specs.Option.{option_map}
+use Rattle.std.specs.Option.{option_map, unwrap_or}
 use Rattle.pd_answers.specs.Words as asked
 use Rattle.pd_words.specs.declared.items.Item.{Item}
 use Rattle.pd_words.specs.declared.items.WordPlace.{WordPlace}
 use Rattle.pd_words.specs.declared.items.Given.{Given}
 use Rattle.pd_words.specs.declared.items.Given.TheVariants.{Never, Once, Often}
-use Rattle.pd_words.specs.declared.items.Tool.{Tool}
-use Rattle.pd_words.specs.declared.items.Tool.TheVariants.{Check, Dump, Restore, Repair, ReverseMap, DeviceList, Since, Generate, Rehearse, Writeback, Shrink}
 
 -- the word that a name stands for
 abbrev pub word_at : List (List ℕ) → ℕ → List ℕ
@@ -18,6 +16,14 @@ word_at words i = get_or words i []
 abbrev pub with_item : List (List ℕ) → Option Item → Option (List asked.Item)
 with_item words None = None
 with_item words (Some item) = asked.more item.purpose.now (word_at words item.value) (asked.items_of (drop item.next words))
+
+-- the items of the words after the first one, which is the tool's name
+unfoldable pub items_in : List (List ℕ) → List asked.Item
+items_in words = unwrap_or (asked.items_of (drop 1 words)) []
+
+-- these words are items
+abbrev pub AreItems : List (List ℕ) → Type 0
+AreItems words = asked.items_of (drop 1 words) ≡ Some (items_in words)
 
 -- an item from this index on, of so many words
 pub record IsItemWithin (begin number : ℕ) (item : Item) : Type 0 where
@@ -48,20 +54,3 @@ abbrev pub IsGivenWithin : ℕ → Given → Type 0
 IsGivenWithin number Never = Unit {0}
 IsGivenWithin number (Once name) = name.0 < number
 IsGivenWithin number Often = Unit {0}
-
-abbrev pub tool_as : Tool → asked.Tool
-tool_as (Check kind) = asked.check_tool kind
-tool_as (Dump kind) = asked.dump_tool kind
-tool_as (Restore kind) = asked.restore_tool kind
-tool_as Repair = asked.repair_tool
-tool_as ReverseMap = asked.rmap_tool
-tool_as DeviceList = asked.device_list_tool
-tool_as Since = asked.since_tool
-tool_as Generate = asked.generate_tool
-tool_as Rehearse = asked.rehearse_tool
-tool_as Writeback = asked.writeback_tool
-tool_as Shrink = asked.shrink_tool
-
-abbrev pub found_tool : Option Tool → Option asked.Tool
-found_tool None = None
-found_tool (Some tool) = Some (tool_as tool)

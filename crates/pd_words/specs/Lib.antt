@@ -1,3 +1,4 @@
+pub mod Table
 pub mod Items
 pub mod Words
 pub mod Numbers

@@ -67,11 +67,6 @@ abbrev pub answer_as : List (List ℕ) → Result Request WordFault → Option r
 answer_as words (Ok request) = Some (request_as words request)
 answer_as words (Err fault) = None
 
--- a repair of what was given: with all three numbers of the superblock that is wanting, or none
-abbrev pub repair_as : List (List ℕ) → Name → Name → Option Name → Option Name → Option Name → Option requests.Request
-repair_as words input output transaction block_size blocks =
-    asked.repair_with (word_of words input) (word_of words output) (words_of words transaction) (words_of words block_size) (words_of words blocks)
-
 -- a name is the index of one of so many words
 abbrev pub IsName : ℕ → Name → Type 0
 IsName number name = name.0 < number

@@ -4,7 +4,9 @@
 mod items;
 mod numbers;
 mod request;
+mod table;
 mod words;
 
 pub use request::{Asked, ImageQuery, Name, Request, WordFault};
+pub use table::{IMAGE, Need, TOOLS, Tool, ToolWords, Value, Word};
 pub use words::read_words;

@@ -1,6 +1,6 @@
 //! The numbers that words are, and regions between two numbers.
 
-ghost use Rattle.std.specs.Prelude.{◌≡◌, ◌<◌, ◌^◌, IfSome};
+ghost use Rattle.std.specs.Prelude.{◌≡◌, ◌≤◌, ◌+◌, ◌^◌, IfSome};
 ghost use Rattle.pd_answers.specs.Words.{number_below, region_of};
 ghost use Rattle.pd_words.specs.Numbers.{region_as, region_from};
 
@@ -33,14 +33,14 @@ pub(crate) fn number(word: &str) -> Option<u64>
     }
 }
 
-/// The number below the bound that a word is in decimal, without leading zeros.
-pub(crate) fn number_below(bound: u64, word: &str) -> Option<u64>
-    ensures number { result ≡ number_below bound word.now }
-    ensures within { IfSome result (λ number. number < bound) }
+/// The number up to `most` that a word is in decimal, without leading zeros.
+pub(crate) fn number_up_to(most: u64, word: &str) -> Option<u64>
+    ensures number { result ≡ number_below (most + 1) word.now }
+    ensures within { IfSome result (λ number. number ≤ most) }
 {
     match number(word) {
         None => None,
-        Some(number) => { if number < bound { Some(number) } else { None } }
+        Some(number) => { if number <= most { Some(number) } else { None } }
     }
 }
 

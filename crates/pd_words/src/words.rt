@@ -1,17 +1,24 @@
 //! The request that words spell.
 
-ghost use Rattle.std.specs.Prelude.{◌≡◌, ◌^◌, ℕ, List, Some, true, map, drop, string_bytes, length, IfSome, IfOk};
+ghost use Rattle.std.specs.Prelude.{◌≡◌, ◌<◌, ◌≤◌, ◌+◌, ◌^◌, ℕ, List, Some, true, map, string_bytes, length, IfSome, IfOk};
 ghost use Rattle.std.specs.Option.{option_map};
-ghost use Rattle.pd_answers.specs.Words.{asked, stage_of, last_stage, version_of, region_of, generated_number, items_of, check_with, dump_with};
+ghost use Rattle.pd_answers.specs.Words.{asked, at_most_one, check_with, dump_with, generated_number, given, is_set, meant_if_any, region_of, repair_with, single_value, stage_of, stage_or_last, version_of, version_or_first};
 ghost use Rattle.pd_kinds.specs.declared.kind.Stage.TheVariants.{Counts};
+ghost use Rattle.pd_answers.specs.Tools as tools_spec;
 ghost use Rattle.pd_answers.specs.Words as words_spec;
-ghost use Rattle.pd_words.specs.Items.{tool_as};
+ghost use Rattle.pd_words.specs.Items.{items_in, AreItems};
 ghost use Rattle.pd_words.specs.Numbers.{region_as};
-ghost use Rattle.pd_words.specs.Words.{read_as, answer_as, repair_as, word_of, words_of, AreNames, IsGenerated, IsName, IsNameIfAny, IsVersion};
+ghost use Rattle.pd_words.specs.Table.{tool_as};
+ghost use Rattle.pd_words.specs.Words.{read_as, answer_as, word_of, words_of, AreNames, IsGenerated, IsName, IsNameIfAny, IsPoolSize, IsVersion};
 
-use crate::items::{Given, IMAGE, Tool, are_items_of_tool, given_for, tool_named};
-use crate::numbers::{Region, number, number_below, read_region};
+use crate::items::{Given, are_items_of, given_for};
+use crate::numbers::{Region, number, number_up_to, read_region};
 use crate::request::{Name, Request, WordFault};
+use crate::table::{
+    BLOCK_SIZE, BLOCKS, CLEAR, DATA, DATA_BLOCKS, FAST, FILE, IMAGE, INPUT, METADATA, NUMBER,
+    ORIGIN, OUTPUT, PASSING, REGION, SHARED, SINCE, TEXT, TRANSACTION, Tool, UNTIL, VERSION, Word,
+    tool_named,
+};
 use pd_kinds::{Flagged, Kind, Passing, Stage};
 
 /// The request that the words spell, without the program's own name.
@@ -29,9 +36,9 @@ pub fn read_words(words: &[String]) -> Result<Request, WordFault>
     }
     match tool_named(words[0].as_str()) {
         None => Err(WordFault::Usage),
-        Some(tool) => {
-            if are_items_of_tool(tool, words, 1) {
-                read_request(tool, words).ok_or(WordFault::Usage)
+        Some(row) => {
+            if are_items_of(row.words, words, 1) {
+                read_request(row.tool, words).ok_or(WordFault::Usage)
             } else {
                 Err(WordFault::Usage)
             }
@@ -41,7 +48,8 @@ pub fn read_words(words: &[String]) -> Result<Request, WordFault>
 
 /// What the words ask of a tool.
 fn read_request(tool: Tool, words: &[String]) -> Option<Request>
-    ensures asked { IfSome (items_of (drop 1 (map string_bytes words.now))) (λ items. read_as (map string_bytes words.now) result ≡ words_spec.request_of (tool_as tool) items) }
+    requires { AreItems (map string_bytes words.now) }
+    ensures asked { read_as (map string_bytes words.now) result ≡ words_spec.request_of (tool_as tool) (items_in (map string_bytes words.now)) }
     ensures names { IfSome result (AreNames (length words.now)) }
 {
     match tool {
@@ -62,24 +70,26 @@ fn read_request(tool: Tool, words: &[String]) -> Option<Request>
 /// What the words ask of a check.
 #[tactic(auto, unfolding(pd_answers::specs::Words::request_of))]
 fn read_check(kind: Kind, words: &[String]) -> Option<Request>
-    ensures asked { IfSome (items_of (drop 1 (map string_bytes words.now))) (λ items. read_as (map string_bytes words.now) result ≡ words_spec.request_of (words_spec.check_tool kind) items) }
+    requires { AreItems (map string_bytes words.now) }
+    ensures asked { read_as (map string_bytes words.now) result ≡ words_spec.request_of (tools_spec.check_tool kind) (items_in (map string_bytes words.now)) }
     ensures names { IfSome result (AreNames (length words.now)) }
 {
-    let until = last_stage(words, optional(words, "--until")?)?;
-    let leaks = flag(words, "--ignore-non-fatal-errors")?;
-    let clear = flag(words, "--clear-needs-check-flag")?;
+    let until = stage_if_any(words, optional(words, UNTIL)?)?;
+    let leaks = flag(words, PASSING)?;
+    let clear = flag(words, CLEAR)?;
     let image = required(words, IMAGE)?;
-    check_with(kind, until, leaks, clear, image)
+    check_with(kind, stage_or_last(until), leaks, clear, image)
 }
 
 /// What the words ask of a dump.
 #[tactic(auto, unfolding(pd_answers::specs::Words::request_of))]
 fn read_dump(kind: Kind, words: &[String]) -> Option<Request>
-    ensures asked { IfSome (items_of (drop 1 (map string_bytes words.now))) (λ items. read_as (map string_bytes words.now) result ≡ words_spec.request_of (words_spec.dump_tool kind) items) }
+    requires { AreItems (map string_bytes words.now) }
+    ensures asked { read_as (map string_bytes words.now) result ≡ words_spec.request_of (tools_spec.dump_tool kind) (items_in (map string_bytes words.now)) }
     ensures names { IfSome result (AreNames (length words.now)) }
 {
-    let shared = flag(words, "--shared")?;
-    let out = optional(words, "-o")?;
+    let shared = flag(words, SHARED)?;
+    let out = optional(words, FILE)?;
     let image = required(words, IMAGE)?;
     dump_with(kind, shared, out, image)
 }
@@ -144,50 +154,47 @@ fn clearing_check(kind: Kind, leaks: bool, image: Name) -> Option<Request>
 /// What the words ask of a restore.
 #[tactic(auto, unfolding(pd_answers::specs::Words::request_of))]
 fn read_restore(kind: Kind, words: &[String]) -> Option<Request>
-    ensures asked { IfSome (items_of (drop 1 (map string_bytes words.now))) (λ items. read_as (map string_bytes words.now) result ≡ words_spec.request_of (words_spec.restore_tool kind) items) }
+    requires { AreItems (map string_bytes words.now) }
+    ensures asked { read_as (map string_bytes words.now) result ≡ words_spec.request_of (tools_spec.restore_tool kind) (items_in (map string_bytes words.now)) }
     ensures names { IfSome result (AreNames (length words.now)) }
 {
-    let version = version_named(words, optional(words, "--metadata-version")?)?;
-    let text = required(words, "-i")?;
-    let image = required(words, "-o")?;
+    let version = version_if_any(words, optional(words, VERSION)?)?;
+    let text = required(words, TEXT)?;
+    let image = required(words, OUTPUT)?;
     Some(Request::Restore {
         kind,
         text,
         image,
-        version,
+        version: version_or_first(version),
     })
 }
 
 /// What the words ask of a repair.
 #[tactic(auto, unfolding(pd_answers::specs::Words::request_of))]
 fn read_repair(words: &[String]) -> Option<Request>
-    ensures asked { IfSome (items_of (drop 1 (map string_bytes words.now))) (λ items. read_as (map string_bytes words.now) result ≡ words_spec.request_of words_spec.repair_tool items) }
+    requires { AreItems (map string_bytes words.now) }
+    ensures asked { read_as (map string_bytes words.now) result ≡ words_spec.request_of tools_spec.repair_tool (items_in (map string_bytes words.now)) }
     ensures names { IfSome result (AreNames (length words.now)) }
 {
-    let input = required(words, "-i")?;
-    let output = required(words, "-o")?;
-    let transaction = optional(words, "--transaction-id")?;
-    let block_size = optional(words, "--data-block-size")?;
-    let blocks = optional(words, "--nr-data-blocks")?;
-    repair_with(words, input, output, transaction, block_size, blocks)
+    let input = required(words, INPUT)?;
+    let output = required(words, OUTPUT)?;
+    let transaction = number_if_any(words, u64::MAX, optional(words, TRANSACTION)?)?;
+    let block_size = number_if_any(words, u32::MAX as u64, optional(words, BLOCK_SIZE)?)?;
+    let blocks = number_if_any(words, 1 << 40, optional(words, DATA_BLOCKS)?)?;
+    repair_with(input, output, transaction, block_size, blocks)
 }
 
-/// A repair of what was given: with all three numbers of the superblock that is wanting, or none.
+/// A repair: with all three numbers of the superblock that is wanting, or none.
 fn repair_with(
-    words: &[String],
     input: Name,
     output: Name,
-    transaction: Option<Name>,
-    block_size: Option<Name>,
-    blocks: Option<Name>,
+    transaction: Option<u64>,
+    block_size: Option<u64>,
+    blocks: Option<u64>,
 ) -> Option<Request>
-    requires input { IsName (length words.now) input }
-    requires output { IsName (length words.now) output }
-    requires transaction { IsNameIfAny (length words.now) transaction }
-    requires block_size { IsNameIfAny (length words.now) block_size }
-    requires blocks { IsNameIfAny (length words.now) blocks }
-    ensures asked { read_as (map string_bytes words.now) result ≡ repair_as (map string_bytes words.now) input output transaction block_size blocks }
-    ensures names { IfSome result (AreNames (length words.now)) }
+    requires size { IfSome block_size (λ size. size < 2 ^ 32) }
+    ensures asked { (words : List (List ℕ)) → read_as words result ≡ repair_with (word_of words input) (word_of words output) transaction block_size blocks }
+    ensures names { (number : ℕ) → IsName number input → IsName number output → IfSome blocks IsPoolSize → IfSome result (AreNames number) }
 {
     match transaction {
         None => match block_size {
@@ -201,49 +208,42 @@ fn repair_with(
             None => None,
             Some(block_size) => match blocks {
                 None => None,
-                Some(blocks) => search_of(words, input, output, transaction, block_size, blocks),
+                Some(blocks) => Some(Request::Search {
+                    input,
+                    output,
+                    transaction,
+                    block_size: block_size as u32,
+                    blocks,
+                }),
             },
         },
     }
 }
 
-/// A repair with the numbers that these words are.
-fn search_of(
-    words: &[String],
-    input: Name,
-    output: Name,
-    transaction: Name,
-    block_size: Name,
-    blocks: Name,
-) -> Option<Request>
-    requires input { IsName (length words.now) input }
-    requires output { IsName (length words.now) output }
-    requires transaction { IsName (length words.now) transaction }
-    requires block_size { IsName (length words.now) block_size }
-    requires blocks { IsName (length words.now) blocks }
-    ensures asked { read_as (map string_bytes words.now) result ≡ repair_as (map string_bytes words.now) input output (Some transaction) (Some block_size) (Some blocks) }
-    ensures names { IfSome result (AreNames (length words.now)) }
+/// The number up to `most` that a word is, if there is a word.
+fn number_if_any(words: &[String], most: u64, name: Option<Name>) -> Option<Option<u64>>
+    requires { IsNameIfAny (length words.now) name }
+    ensures number { result ≡ meant_if_any (tools_spec.below (most + 1)) (words_of (map string_bytes words.now) name) }
+    ensures within { IfSome result (λ read. IfSome read (λ number. number ≤ most)) }
 {
-    let transaction = number(transaction.word_in(words))?;
-    let block_size = number_below(1 << 32, block_size.word_in(words))?;
-    let blocks = number_below((1 << 40) + 1, blocks.word_in(words))?;
-    Some(Request::Search {
-        input,
-        output,
-        transaction,
-        block_size: block_size as u32,
-        blocks,
-    })
+    match name {
+        None => Some(None),
+        Some(name) => match number_up_to(most, name.word_in(words)) {
+            None => None,
+            Some(number) => Some(Some(number)),
+        },
+    }
 }
 
 /// What the words ask of the reverse map.
 #[tactic(auto, unfolding(pd_answers::specs::Words::request_of))]
 fn read_rmap(words: &[String]) -> Option<Request>
-    ensures asked { IfSome (items_of (drop 1 (map string_bytes words.now))) (λ items. read_as (map string_bytes words.now) result ≡ words_spec.request_of words_spec.rmap_tool items) }
+    requires { AreItems (map string_bytes words.now) }
+    ensures asked { read_as (map string_bytes words.now) result ≡ words_spec.request_of tools_spec.rmap_tool (items_in (map string_bytes words.now)) }
     ensures names { IfSome result (AreNames (length words.now)) }
 {
-    let region = region_named(words, required(words, "--region")?)?;
-    let out = optional(words, "-o")?;
+    let region = region_named(words, required(words, REGION)?)?;
+    let out = optional(words, FILE)?;
     let image = required(words, IMAGE)?;
     Some(Request::Rmap {
         first: region.first,
@@ -256,10 +256,11 @@ fn read_rmap(words: &[String]) -> Option<Request>
 /// What the words ask of the list of devices.
 #[tactic(auto, unfolding(pd_answers::specs::Words::request_of))]
 fn read_device_list(words: &[String]) -> Option<Request>
-    ensures asked { IfSome (items_of (drop 1 (map string_bytes words.now))) (λ items. read_as (map string_bytes words.now) result ≡ words_spec.request_of words_spec.device_list_tool items) }
+    requires { AreItems (map string_bytes words.now) }
+    ensures asked { read_as (map string_bytes words.now) result ≡ words_spec.request_of tools_spec.device_list_tool (items_in (map string_bytes words.now)) }
     ensures names { IfSome result (AreNames (length words.now)) }
 {
-    let out = optional(words, "-o")?;
+    let out = optional(words, FILE)?;
     let image = required(words, IMAGE)?;
     Some(Request::List { image, out })
 }
@@ -267,11 +268,12 @@ fn read_device_list(words: &[String]) -> Option<Request>
 /// What the words ask of the blocks that were written since an era.
 #[tactic(auto, unfolding(pd_answers::specs::Words::request_of))]
 fn read_since(words: &[String]) -> Option<Request>
-    ensures asked { IfSome (items_of (drop 1 (map string_bytes words.now))) (λ items. read_as (map string_bytes words.now) result ≡ words_spec.request_of words_spec.since_tool items) }
+    requires { AreItems (map string_bytes words.now) }
+    ensures asked { read_as (map string_bytes words.now) result ≡ words_spec.request_of tools_spec.since_tool (items_in (map string_bytes words.now)) }
     ensures names { IfSome result (AreNames (length words.now)) }
 {
-    let era = era_named(words, required(words, "--written-since")?)?;
-    let out = optional(words, "-o")?;
+    let era = era_named(words, required(words, SINCE)?)?;
+    let out = optional(words, FILE)?;
     let image = required(words, IMAGE)?;
     Some(Request::Since { era, image, out })
 }
@@ -281,7 +283,7 @@ fn era_named(words: &[String], name: Name) -> Option<u32>
     requires { IsName (length words.now) name }
     ensures { result ≡ words_spec.number_below (2 ^ 32) (word_of (map string_bytes words.now) name) }
 {
-    match number_below(1 << 32, name.word_in(words)) {
+    match number_up_to(u32::MAX as u64, name.word_in(words)) {
         None => None,
         Some(era) => Some(era as u32),
     }
@@ -298,47 +300,51 @@ fn region_named(words: &[String], name: Name) -> Option<Region>
 /// What the words ask of the generator.
 #[tactic(auto, unfolding(pd_answers::specs::Words::request_of))]
 fn read_generate(words: &[String]) -> Option<Request>
-    ensures asked { IfSome (items_of (drop 1 (map string_bytes words.now))) (λ items. read_as (map string_bytes words.now) result ≡ words_spec.request_of words_spec.generate_tool items) }
+    requires { AreItems (map string_bytes words.now) }
+    ensures asked { read_as (map string_bytes words.now) result ≡ words_spec.request_of tools_spec.generate_tool (items_in (map string_bytes words.now)) }
     ensures names { IfSome result (AreNames (length words.now)) }
 {
-    let number = generated_number(words, required(words, "--number")?)?;
-    let out = optional(words, "-o")?;
+    let number = generated_number(words, required(words, NUMBER)?)?;
+    let out = optional(words, FILE)?;
     Some(Request::Generate { number, out })
 }
 
 /// What the words ask of a rehearsal.
 #[tactic(auto, unfolding(pd_answers::specs::Words::request_of))]
 fn read_rehearse(words: &[String]) -> Option<Request>
-    ensures asked { IfSome (items_of (drop 1 (map string_bytes words.now))) (λ items. read_as (map string_bytes words.now) result ≡ words_spec.request_of words_spec.rehearse_tool items) }
+    requires { AreItems (map string_bytes words.now) }
+    ensures asked { read_as (map string_bytes words.now) result ≡ words_spec.request_of tools_spec.rehearse_tool (items_in (map string_bytes words.now)) }
     ensures names { IfSome result (AreNames (length words.now)) }
 {
-    let number = generated_number(words, required(words, "--number")?)?;
-    let image = required(words, "-o")?;
+    let number = generated_number(words, required(words, NUMBER)?)?;
+    let image = required(words, OUTPUT)?;
     Some(Request::Rehearse { number, image })
 }
 
 /// What the words ask of a writeback.
 #[tactic(auto, unfolding(pd_answers::specs::Words::request_of))]
 fn read_writeback(words: &[String]) -> Option<Request>
-    ensures asked { IfSome (items_of (drop 1 (map string_bytes words.now))) (λ items. read_as (map string_bytes words.now) result ≡ words_spec.request_of words_spec.writeback_tool items) }
+    requires { AreItems (map string_bytes words.now) }
+    ensures asked { read_as (map string_bytes words.now) result ≡ words_spec.request_of tools_spec.writeback_tool (items_in (map string_bytes words.now)) }
     ensures names { IfSome result (AreNames (length words.now)) }
 {
-    let meta = required(words, "--metadata-device")?;
-    let fast = required(words, "--fast-device")?;
-    let origin = required(words, "--origin-device")?;
+    let meta = required(words, METADATA)?;
+    let fast = required(words, FAST)?;
+    let origin = required(words, ORIGIN)?;
     Some(Request::Writeback { meta, fast, origin })
 }
 
 /// What the words ask of a shrink.
 #[tactic(auto, unfolding(pd_answers::specs::Words::request_of))]
 fn read_shrink(words: &[String]) -> Option<Request>
-    ensures asked { IfSome (items_of (drop 1 (map string_bytes words.now))) (λ items. read_as (map string_bytes words.now) result ≡ words_spec.request_of words_spec.shrink_tool items) }
+    requires { AreItems (map string_bytes words.now) }
+    ensures asked { read_as (map string_bytes words.now) result ≡ words_spec.request_of tools_spec.shrink_tool (items_in (map string_bytes words.now)) }
     ensures names { IfSome result (AreNames (length words.now)) }
 {
-    let input = required(words, "-i")?;
-    let output = required(words, "-o")?;
-    let pool = required(words, "--data")?;
-    let blocks = number_named(words, required(words, "--nr-blocks")?)?;
+    let input = required(words, INPUT)?;
+    let output = required(words, OUTPUT)?;
+    let pool = required(words, DATA)?;
+    let blocks = number_named(words, required(words, BLOCKS)?)?;
     Some(Request::Shrink {
         input,
         output,
@@ -362,7 +368,7 @@ fn generated_number(words: &[String], name: Name) -> Option<u32>
     ensures number { result ≡ generated_number (word_of (map string_bytes words.now) name) }
     ensures within { IfSome result IsGenerated }
 {
-    match number_below(10001, name.word_in(words)) {
+    match number_up_to(10000, name.word_in(words)) {
         None => None,
         Some(number) => {
             if number == 0 {
@@ -375,22 +381,24 @@ fn generated_number(words: &[String], name: Name) -> Option<u32>
 }
 
 /// The value of an option that is wanted, or the operand.
-fn required(words: &[String], purpose: &str) -> Option<Name>
-    ensures value { IfSome (items_of (drop 1 (map string_bytes words.now))) (λ items. words_of (map string_bytes words.now) result ≡ words_spec.required purpose.now items) }
+fn required(words: &[String], word: Word) -> Option<Name>
+    requires { AreItems (map string_bytes words.now) }
+    ensures value { words_of (map string_bytes words.now) result ≡ single_value (given word.name.now (items_in (map string_bytes words.now))) }
     ensures within { IsNameIfAny (length words.now) result }
 {
-    match given_for(words, 1, purpose) {
+    match given_for(words, word.name) {
         Given::Once(value) => Some(value),
         _ => None,
     }
 }
 
 /// The value of an option that may be left out.
-fn optional(words: &[String], purpose: &str) -> Option<Option<Name>>
-    ensures value { IfSome (items_of (drop 1 (map string_bytes words.now))) (λ items. option_map (words_of (map string_bytes words.now)) result ≡ words_spec.optional purpose.now items) }
+fn optional(words: &[String], word: Word) -> Option<Option<Name>>
+    requires { AreItems (map string_bytes words.now) }
+    ensures value { option_map (words_of (map string_bytes words.now)) result ≡ at_most_one (given word.name.now (items_in (map string_bytes words.now))) }
     ensures within { IfSome result (IsNameIfAny (length words.now)) }
 {
-    match given_for(words, 1, purpose) {
+    match given_for(words, word.name) {
         Given::Never => Some(None),
         Given::Once(value) => Some(Some(value)),
         Given::Often => None,
@@ -398,24 +406,38 @@ fn optional(words: &[String], purpose: &str) -> Option<Option<Name>>
 }
 
 /// Whether a flag is set.
-fn flag(words: &[String], purpose: &str) -> Option<bool>
-    ensures { IfSome (items_of (drop 1 (map string_bytes words.now))) (λ items. result ≡ words_spec.flag purpose.now items) }
+fn flag(words: &[String], word: Word) -> Option<bool>
+    requires { AreItems (map string_bytes words.now) }
+    ensures { result ≡ is_set (given word.name.now (items_in (map string_bytes words.now))) }
 {
-    match given_for(words, 1, purpose) {
+    match given_for(words, word.name) {
         Given::Never => Some(false),
         Given::Once(_) => Some(true),
         Given::Often => None,
     }
 }
 
-/// The stage that a word names; without a word it is the last one.
-fn last_stage(words: &[String], name: Option<Name>) -> Option<Stage>
+/// The stage that was given, and else the last one.
+fn stage_or_last(until: Option<Stage>) -> Stage
+    ensures { result ≡ stage_or_last until }
+{
+    match until {
+        None => Stage::Counts,
+        Some(until) => until,
+    }
+}
+
+/// The stage that a word names, if there is one.
+fn stage_if_any(words: &[String], name: Option<Name>) -> Option<Option<Stage>>
     requires { IsNameIfAny (length words.now) name }
-    ensures { result ≡ last_stage (words_of (map string_bytes words.now) name) }
+    ensures { result ≡ meant_if_any tools_spec.stage (words_of (map string_bytes words.now) name) }
 {
     match name {
-        None => Some(Stage::Counts),
-        Some(name) => stage_named(name.word_in(words)),
+        None => Some(None),
+        Some(name) => match stage_named(name.word_in(words)) {
+            None => None,
+            Some(stage) => Some(Some(stage)),
+        },
     }
 }
 
@@ -434,16 +456,30 @@ fn stage_named(word: &str) -> Option<Stage>
     }
 }
 
-/// The version of the metadata that a word names; without a word it is the first one.
-#[tactic(auto, unfolding(pd_answers::specs::Words::version_of))]
-fn version_named(words: &[String], name: Option<Name>) -> Option<u32>
+/// The version of the metadata that a word names, if there is one.
+fn version_if_any(words: &[String], name: Option<Name>) -> Option<Option<u32>>
     requires { IsNameIfAny (length words.now) name }
-    ensures version { result ≡ version_of (words_of (map string_bytes words.now) name) }
-    ensures within { IfSome result IsVersion }
+    ensures version { result ≡ meant_if_any tools_spec.version (words_of (map string_bytes words.now) name) }
+    ensures within { IfSome result (λ read. IfSome read IsVersion) }
 {
     match name {
-        None => Some(1),
-        Some(name) => version_number(name.word_in(words)),
+        None => Some(None),
+        Some(name) => match version_number(name.word_in(words)) {
+            None => None,
+            Some(version) => Some(Some(version)),
+        },
+    }
+}
+
+/// The version that was given, and else the first one.
+fn version_or_first(version: Option<u32>) -> u32
+    requires { IfSome version IsVersion }
+    ensures version { result ≡ version_or_first version }
+    ensures within { IsVersion result }
+{
+    match version {
+        None => 1,
+        Some(version) => version,
     }
 }
 

@@ -1,0 +1,373 @@
+//! The tools, and the words that can be given to each.
+
+ghost use Rattle.std.specs.Prelude.{◌≡◌, map};
+ghost use Rattle.std.specs.List.{list_any};
+ghost use Rattle.std.specs.Option.{option_map};
+ghost use Rattle.pd_answers.specs.Words.{is_flag, is_named, is_named_flag, is_flag_need, tool_in, tool_of};
+ghost use Rattle.pd_words.specs.Table.{has_flag, need_as, row_as, word_as};
+
+use pd_kinds::Kind;
+
+/// The tools.
+#[derive(Clone, Copy)]
+pub enum Tool {
+    /// thin_check, cache_check, era_check
+    Check(Kind),
+    /// thin_dump, cache_dump, era_dump
+    Dump(Kind),
+    /// thin_restore, cache_restore, era_restore
+    Restore(Kind),
+    /// thin_repair
+    Repair,
+    /// thin_rmap
+    ReverseMap,
+    /// thin_ls
+    DeviceList,
+    /// era_invalidate
+    Since,
+    /// thin_generate
+    Generate,
+    /// thin_rehearse
+    Rehearse,
+    /// cache_writeback
+    Writeback,
+    /// thin_shrink
+    Shrink,
+}
+
+/// What the value of a word is.
+#[derive(Clone, Copy)]
+pub enum Value {
+    /// The name of a file.
+    File,
+    /// The name of a device, or of a file in its place.
+    Device,
+    /// The last stage of a check.
+    Stage,
+    /// A version of a cache's metadata.
+    Version,
+    /// Two numbers of data blocks.
+    Region,
+    /// A number up to this one.
+    UpTo(u64),
+    /// A number of the generator, from 1 to 10000.
+    Generated,
+}
+
+/// How a word can be given.
+#[derive(Clone, Copy)]
+pub enum Need {
+    /// Once or not at all, without a value.
+    Flag,
+    /// Once, with a value.
+    Wanted(Value),
+    /// Once or not at all, with a value.
+    Optional(Value),
+    /// The same, but with all words of its tool that are so, or with none of them.
+    Together(Value),
+}
+
+/// A word that can be given, by its name.
+#[derive(Clone, Copy)]
+pub struct Word {
+    pub name: &'static str,
+    pub need: Need,
+}
+
+/// A tool, its name, and what can be given to it.
+#[derive(Clone, Copy)]
+pub struct ToolWords {
+    pub name: &'static str,
+    pub tool: Tool,
+    pub words: &'static [Word],
+}
+
+/// The operand, which has no option's word before it.
+pub const IMAGE: Word = Word {
+    name: "IMAGE",
+    need: Need::Wanted(Value::Device),
+};
+
+/// The last stage of a check.
+pub(crate) const UNTIL: Word = Word {
+    name: "--until",
+    need: Need::Optional(Value::Stage),
+};
+
+/// Whether leaks pass.
+pub(crate) const PASSING: Word = Word {
+    name: "--ignore-non-fatal-errors",
+    need: Need::Flag,
+};
+
+/// Whether the flag "needs check" is cleared.
+pub(crate) const CLEAR: Word = Word {
+    name: "--clear-needs-check-flag",
+    need: Need::Flag,
+};
+
+/// The file for what is printed.
+pub(crate) const FILE: Word = Word {
+    name: "-o",
+    need: Need::Optional(Value::File),
+};
+
+/// Whether shared leaves are told once.
+pub(crate) const SHARED: Word = Word {
+    name: "--shared",
+    need: Need::Flag,
+};
+
+/// The data blocks of a reverse map.
+pub(crate) const REGION: Word = Word {
+    name: "--region",
+    need: Need::Wanted(Value::Region),
+};
+
+/// The first era that counts.
+pub(crate) const SINCE: Word = Word {
+    name: "--written-since",
+    need: Need::Wanted(Value::UpTo(u32::MAX as u64)),
+};
+
+/// The text that is read.
+pub(crate) const TEXT: Word = Word {
+    name: "-i",
+    need: Need::Wanted(Value::File),
+};
+
+/// The device that is read.
+pub(crate) const INPUT: Word = Word {
+    name: "-i",
+    need: Need::Wanted(Value::Device),
+};
+
+/// The device that is written.
+pub(crate) const OUTPUT: Word = Word {
+    name: "-o",
+    need: Need::Wanted(Value::Device),
+};
+
+/// The version of a cache's metadata.
+pub(crate) const VERSION: Word = Word {
+    name: "--metadata-version",
+    need: Need::Optional(Value::Version),
+};
+
+/// The number of the generator.
+pub(crate) const NUMBER: Word = Word {
+    name: "--number",
+    need: Need::Wanted(Value::Generated),
+};
+
+/// The transaction of a superblock that is wanting.
+pub(crate) const TRANSACTION: Word = Word {
+    name: "--transaction-id",
+    need: Need::Together(Value::UpTo(u64::MAX)),
+};
+
+/// Its block size in sectors.
+pub(crate) const BLOCK_SIZE: Word = Word {
+    name: "--data-block-size",
+    need: Need::Together(Value::UpTo(u32::MAX as u64)),
+};
+
+/// Its number of data blocks.
+pub(crate) const DATA_BLOCKS: Word = Word {
+    name: "--nr-data-blocks",
+    need: Need::Together(Value::UpTo(1 << 40)),
+};
+
+/// The metadata of a cache.
+pub(crate) const METADATA: Word = Word {
+    name: "--metadata-device",
+    need: Need::Wanted(Value::Device),
+};
+
+/// Its fast device.
+pub(crate) const FAST: Word = Word {
+    name: "--fast-device",
+    need: Need::Wanted(Value::Device),
+};
+
+/// Its origin.
+pub(crate) const ORIGIN: Word = Word {
+    name: "--origin-device",
+    need: Need::Wanted(Value::Device),
+};
+
+/// The data device of a pool.
+pub(crate) const DATA: Word = Word {
+    name: "--data",
+    need: Need::Wanted(Value::Device),
+};
+
+/// How many data blocks a pool is to have.
+pub(crate) const BLOCKS: Word = Word {
+    name: "--nr-blocks",
+    need: Need::Wanted(Value::UpTo(u64::MAX)),
+};
+
+/// The tools, and what can be given to each.
+pub static TOOLS: [ToolWords; 17] = [
+    ToolWords {
+        name: "thin_check",
+        tool: Tool::Check(Kind::Thin),
+        words: &[UNTIL, PASSING, CLEAR, IMAGE],
+    },
+    ToolWords {
+        name: "cache_check",
+        tool: Tool::Check(Kind::Cache),
+        words: &[UNTIL, PASSING, CLEAR, IMAGE],
+    },
+    ToolWords {
+        name: "era_check",
+        tool: Tool::Check(Kind::Era),
+        words: &[UNTIL, PASSING, IMAGE],
+    },
+    ToolWords {
+        name: "thin_dump",
+        tool: Tool::Dump(Kind::Thin),
+        words: &[SHARED, FILE, IMAGE],
+    },
+    ToolWords {
+        name: "cache_dump",
+        tool: Tool::Dump(Kind::Cache),
+        words: &[FILE, IMAGE],
+    },
+    ToolWords {
+        name: "era_dump",
+        tool: Tool::Dump(Kind::Era),
+        words: &[FILE, IMAGE],
+    },
+    ToolWords {
+        name: "thin_restore",
+        tool: Tool::Restore(Kind::Thin),
+        words: &[TEXT, OUTPUT],
+    },
+    ToolWords {
+        name: "cache_restore",
+        tool: Tool::Restore(Kind::Cache),
+        words: &[VERSION, TEXT, OUTPUT],
+    },
+    ToolWords {
+        name: "era_restore",
+        tool: Tool::Restore(Kind::Era),
+        words: &[TEXT, OUTPUT],
+    },
+    ToolWords {
+        name: "thin_repair",
+        tool: Tool::Repair,
+        words: &[INPUT, OUTPUT, TRANSACTION, BLOCK_SIZE, DATA_BLOCKS],
+    },
+    ToolWords {
+        name: "thin_rmap",
+        tool: Tool::ReverseMap,
+        words: &[REGION, FILE, IMAGE],
+    },
+    ToolWords {
+        name: "thin_ls",
+        tool: Tool::DeviceList,
+        words: &[FILE, IMAGE],
+    },
+    ToolWords {
+        name: "era_invalidate",
+        tool: Tool::Since,
+        words: &[SINCE, FILE, IMAGE],
+    },
+    ToolWords {
+        name: "thin_generate",
+        tool: Tool::Generate,
+        words: &[NUMBER, FILE],
+    },
+    ToolWords {
+        name: "thin_rehearse",
+        tool: Tool::Rehearse,
+        words: &[NUMBER, OUTPUT],
+    },
+    ToolWords {
+        name: "cache_writeback",
+        tool: Tool::Writeback,
+        words: &[METADATA, FAST, ORIGIN],
+    },
+    ToolWords {
+        name: "thin_shrink",
+        tool: Tool::Shrink,
+        words: &[INPUT, OUTPUT, DATA, BLOCKS],
+    },
+];
+
+/// The row of the tool of this name.
+pub(crate) fn row_named(rows: &[ToolWords], name: &str) -> Option<ToolWords>
+    ensures { option_map row_as result ≡ tool_in (map row_as rows.now) name.now }
+{
+    for row in rows {
+        if name == row.name {
+            return Some(*row);
+        }
+    }
+    None
+}
+
+/// The tool of this name, with its words.
+pub(crate) fn tool_named(name: &str) -> Option<ToolWords>
+    ensures { option_map row_as result ≡ tool_of name.now }
+{
+    row_named(&TOOLS, name)
+}
+
+/// Whether one of the words has this name.
+pub(crate) fn has_word(words: &[Word], name: &str) -> bool
+    ensures { result ≡ list_any (is_named name.now) (map word_as words.now) }
+{
+    for word in words {
+        if name == word.name {
+            return true;
+        }
+    }
+    false
+}
+
+/// Whether a word has no value.
+fn is_flag_need(need: Need) -> bool
+    ensures { result ≡ is_flag_need (need_as need) }
+{
+    match need {
+        Need::Flag => true,
+        Need::Wanted(_) => false,
+        Need::Optional(_) => false,
+        Need::Together(_) => false,
+    }
+}
+
+/// Whether one of the words is a flag of this name.
+fn has_flag(words: &[Word], name: &str) -> bool
+    ensures { result ≡ list_any (is_named_flag name.now) (map word_as words.now) }
+{
+    for word in words {
+        if is_flag_need(word.need) & (name == word.name) {
+            return true;
+        }
+    }
+    false
+}
+
+/// Whether a tool of the rows has a flag of this name.
+fn is_flag_in(rows: &[ToolWords], name: &str) -> bool
+    ensures { result ≡ list_any (has_flag name.now) (map row_as rows.now) }
+{
+    for row in rows {
+        if has_flag(row.words, name) {
+            return true;
+        }
+    }
+    false
+}
+
+/// Whether a word is a flag's of a tool.
+#[tactic(auto, unfolding(pd_answers::specs::Words::is_flag))]
+pub(crate) fn is_flag(name: &str) -> bool
+    ensures { result ≡ is_flag name.now }
+{
+    is_flag_in(&TOOLS, name)
+}
