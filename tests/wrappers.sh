@@ -97,8 +97,9 @@ notes
 prefix=$tmp/prefix
 PREFIX=$prefix
 export PREFIX
-tools='thin_check cache_check era_check thin_dump cache_dump era_dump thin_restore cache_restore era_restore
-    thin_repair thin_rmap thin_ls era_invalidate thin_generate thin_rehearse cache_writeback thin_shrink'
+# what can be given to each tool, as pd_word_list prints it of the program's table
+table=$here/crates/pd_word_list/stdout
+tools=$(cut -d ' ' -f 1 "$table")
 mkdir -p "$prefix/sbin"
 echo 'of another' >"$prefix/sbin/thin_check"
 try 1 "$here/install"
@@ -113,6 +114,111 @@ for tool in $tools; do
 done
 lvm=$prefix/libexec/pdata_tools
 PATH=$prefix/sbin:$prefix/bin:$PATH
+
+# The lists of words: the scripts, the completion and the pages have the words of the table
+
+# These names, one a line, are those of the tools
+named() {
+    grep '^[a-z]*_' | grep -v pdata >names
+    printf '%s\n' "$tools" | diff - names >differs || bad "$(cat differs)"
+}
+for script in install package completion/pdata_tools; do
+    what="the tools of $script"
+    sed -n "/tools='/,/'\$/p" "$here/$script" | tr -s " '\n" '\n' | named
+done
+what="the tools that are completed"
+sed -n '/^complete /,$p' "$here/completion/pdata_tools" | tr -s ' \\\n' '\n' | named
+
+# A synopsis word by word, with the table's words for values
+plain() {
+    tr -s ' ' '\n' | sed -E -e 's/^(N|ERA|SECTORS|BLOCKS)(]*)$/NUMBER\2/' -e 's/^1\|2/VERSION/'
+}
+# The synopsis of a page
+synopsis_of() {
+    awk '/^\.Sh/ { on = ($2 == "SYNOPSIS"); next }
+        !on { next }
+        /^\.Nm/ { printf "%s", tool; next }
+        /^\.Oo/ { open = "["; next }
+        /^\.Oc/ { printf "]"; next }
+        {
+            gsub(/ Ns \.\. Ns Ar /, "..")
+            end = sub(/^\.Op /, ".") ? "]" : ""
+            if (end != "") open = "["
+            for (i = 1; i < NF; i += 2) {
+                printf " %s%s", open, $i ~ /Fl$/ ? "-" $(i + 1) : toupper($(i + 1))
+                open = ""
+            }
+            printf "%s", end
+        }
+        END { print "" }' tool="$1" "$here/man/$1.8"
+}
+for tool in $tools; do
+    grep "^$tool " "$table" | plain >wanted
+    what="$tool --help"
+    "$tool" --help | sed -e 's/^usage: //' -e '/^ *STAGE:/d' -e '/^ *see /d' | plain >got
+    same wanted got
+    what="the synopsis of $tool.8"
+    synopsis_of "$tool" | plain >got
+    same wanted got
+done
+
+# the words of options: those that take a value end without a bracket
+tr ' ' '\n' <"$table" | sed -n 's/^\[*-/-/p' | sort -u >options
+sed -n '/^takes_value() {/,/^}/p' "$here/commands/tool" >takes_value.sh
+what='the options with a value'
+# shellcheck disable=SC1091
+. ./takes_value.sh
+while read -r option; do
+    case $option in
+    *']') ! takes_value "${option%]}" || bad "${option%]} has no value" ;;
+    *) takes_value "$option" || bad "$option has a value" ;;
+    esac
+    tr -s ' ";' '\n' <"$here/install" | grep -qx -e "${option%]}" || bad "./install doesn't try ${option%]}"
+done <options
+tr -s ' );|' '\n' <takes_value.sh | grep '^-' | sort >got
+grep -v ']$' options | sort >wanted
+same wanted got
+
+# The program takes what the table has: all of it, and only what is wanted; nothing twice, and nothing that is wanted left out
+takes() {
+    status=$1
+    shift
+    what=$*
+    tries=$((tries + 1))
+    pdata_tools "$@" >/dev/null 2>&1
+    got=$?
+    case $status,$got in
+    yes,2 | no,[!2]) bad "status $got" ;;
+    esac
+}
+parts_of() {
+    tr -d '[]' | sed -E 's/(-[^ ]*( [^- ][^ ]*)?|none)/|&/g' | tr '|' '\n' | sed '/^ *$/d' >parts
+}
+while read -r tool row; do
+    row=$(printf '%s\n' "$row" | sed -E -e 's/FILE|DEVICE/none\/it/g' -e 's/FIRST/0/' -e 's/END/1/' -e 's/STAGE/counts/' -e 's/NUMBER|VERSION/1/g')
+    all=$(printf '%s\n' "$row" | tr -d '[]')
+    least=$(printf '%s\n' "$row" | sed 's/\[[^]]*\] *//g')
+    # shellcheck disable=SC2086 # several words
+    takes yes "$tool" $all
+    # shellcheck disable=SC2086
+    takes yes "$tool" $least
+    # each part, an option with its value, a flag, or the operand: not twice
+    printf '%s\n' "$row" | sed 's/] /|/g' | tr '|' '\n' | parts_of
+    while read -r part; do
+        # shellcheck disable=SC2086
+        takes no "$tool" $all $part
+    done <parts
+    # nor is one that is wanted left out
+    printf '%s\n' "$least" | parts_of
+    while read -r part; do
+        # shellcheck disable=SC2046
+        takes no "$tool" $(printf '%s\n' "$least" | sed "s|$part||")
+    done <parts
+    # and of those that go together there isn't one alone
+    part=$(printf '%s\n' "$row" | sed -n 's/.*\[\(-[^] ]* [^] ]*\) -.*/\1/p')
+    # shellcheck disable=SC2086
+    [ -z "$part" ] || takes no "$tool" $least $part
+done <"$table"
 
 # Words
 
@@ -1348,6 +1454,22 @@ _pdata_tools
 printf '%s\n' "${COMPREPLY[@]}"
 END
     complete=$prefix/share/bash-completion/completions/pdata_tools
+    # the table's options, and what its values are
+    for tool in $tools; do
+        grep "^$tool " "$table" | tr ' ' '\n' | tr -d '[]' | grep '^-' >options
+        try 0 bash complete.bash "$complete" pdata_tools "$tool" -
+        same options out
+        grep "^$tool " "$table" | sed -E 's/(-[^] ]*) ([A-Z.]+)/|\1 \2|/g' | tr '|' '\n' | grep '^-' >options
+        while read -r option value; do
+            try 0 bash complete.bash "$complete" pdata_tools "$tool" "$option" ''
+            case $value in
+            STAGE) out super walk order whole counts ;;
+            VERSION) out 1 2 ;;
+            FILE | DEVICE) grep -qx thin-pool.img out || bad 'no files' ;;
+            *) out '' ;;
+            esac
+        done <options
+    done
     try 0 bash complete.bash "$complete" pdata_tools thin_r
     out thin_restore thin_repair thin_rmap thin_rehearse
     try 0 bash complete.bash "$complete" thin_repair -i lost.img --transaction-id 5 --d

@@ -1,0 +1,54 @@
+//! Prints what can be given to each tool, a line a tool, for the scripts that keep lists of words.
+#![tactic(auto)]
+
+use pd_words::{IMAGE, Need, TOOLS, ToolWords, Value, Word};
+use std::io;
+
+fn main(rt: HostRuntime) -> io::Result<()> {
+    for row in &TOOLS {
+        put_tool(&rt, row)?;
+    }
+    Ok(())
+}
+
+/// Puts the name of a tool and its words. What may be left out stands in brackets, and so do words that go together.
+fn put_tool(rt: &impl Print, row: &ToolWords) -> io::Result<()> {
+    print!(rt; "{}", row.name)?;
+    let mut is_open = false;
+    for word in row.words {
+        let is_together = matches!(word.need, Need::Together(_));
+        if is_open & !is_together {
+            print!(rt; "]")?;
+        }
+        print!(rt; "{}", if is_together & !is_open { " [" } else { " " })?;
+        put_word(rt, word)?;
+        is_open = is_together;
+    }
+    println!(rt; "{}", if is_open { "]" } else { "" })
+}
+
+/// Puts a word with what its value is.
+fn put_word(rt: &impl Print, word: &Word) -> io::Result<()> {
+    if word.name == IMAGE.name {
+        return print!(rt; "DEVICE");
+    }
+    match word.need {
+        Need::Flag => print!(rt; "[{}]", word.name),
+        Need::Wanted(value) => print!(rt; "{} {}", word.name, shown(value)),
+        Need::Optional(value) => print!(rt; "[{} {}]", word.name, shown(value)),
+        Need::Together(value) => print!(rt; "{} {}", word.name, shown(value)),
+    }
+}
+
+/// What stands for a value.
+fn shown(value: Value) -> &'static str {
+    match value {
+        Value::File => "FILE",
+        Value::Device => "DEVICE",
+        Value::Stage => "STAGE",
+        Value::Version => "VERSION",
+        Value::Region => "FIRST..END",
+        Value::UpTo(_) => "NUMBER",
+        Value::Generated => "NUMBER",
+    }
+}
