@@ -23,8 +23,7 @@ use Rattle.pd_cache_meaning.specs.Rows.{rows_below}
 use Rattle.pd_query.proofs.PutsLemmas.{two_told}
 use Rattle.pd_dumps.specs.declared.cache.CacheDump.{CacheDump}
 use Rattle.pd_dumps.specs.CacheDump.{text_left}
-use Rattle.pd_dumps.specs.CacheLines.{cache_dump_text, given_line, super_head, super_rows}
-use Rattle.pd_dumps.proofs.CacheRowLemmas.{are_below}
+use Rattle.pd_dumps.specs.CacheLines.{cache_dump_text, given_line, super_head}
 
 -- the line of an entry whose block may not fit
 abbrev capped : CacheEntry → Line
@@ -105,10 +104,9 @@ module _ (image : List (List ℕ)) (none : faults Cache Whole image ≡ []) (roo
         blocks_fit (cache_entry fields.version words (cache_hints graph image) (cache_dirty_bits graph image)) (λ i. is_valid_word (get_or words i 0)) (λ i. refl) 0 (length words) (omega arith)
 
     -- the lines of the rows are those of the entries
-    rows_are : GivesCache image → map given_line (super_rows image fields) ≡ map row_of (cache_meaning image).entries
+    rows_are : GivesCache image → map given_line (rows_below image fields) ≡ map row_of (cache_meaning image).entries
     rows_are gives =
-        rw (are_below (length image) fields gives.roots)
-        (by_entries (rows_below image fields) ∙ (ap (λ (es : List CacheEntry). map capped es) (sym gives.entries) ∙ lines_are (cache_meaning image).entries entries_fit))
+        by_entries (rows_below image fields) ∙ (ap (λ (es : List CacheEntry). map capped es) (sym gives.entries) ∙ lines_are (cache_meaning image).entries entries_fit)
 
     -- the text is that of the meaning
     pub text_is : GivesCache image → cache_dump_text image fields ≡ text_of_cache (cache_meaning image)

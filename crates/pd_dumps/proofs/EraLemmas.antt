@@ -1,6 +1,5 @@
 -- The lines of an era target: its runs, and what they come to without faults.
-use Rattle.std.proofs.Common.{◌≡◌, ℕ, ◌<◌, ◌≤◌, nat_lt, nat_eq, true, ◌||◌, List, [], ◌∷◌, ◌++◌, length, Option, IfSome, refl, sym, ap, ◌∙◌, append_assoc, arith, inl, inr}
-use Rattle.std.proofs.lemmas.Bool.{cases_Bool, eqb-false, lt-ltb}
+use Rattle.std.proofs.Common.{◌≡◌, ℕ, ◌≤◌, List, [], ◌∷◌, ◌++◌, length, Option, IfSome, sym, ap, ◌∙◌, append_assoc, arith}
 use Rattle.std.proofs.lemmas.List.{append-nil}
 use Rattle.std.proofs.lemmas.List.Concat.{flat_map-append}
 use Rattle.pd_kinds.specs.declared.kind.Kind.TheVariants.{Era}
@@ -15,9 +14,8 @@ use Rattle.pd_lines.proofs.Printing.{begun_after, begun_first, printed_both}
 use Rattle.pd_grammar.specs.Texts.{written}
 use Rattle.pd_spells.specs.EraText.{Line, end_line, era, joined_eras, run_lines, text_of_era}
 use Rattle.pd_texts.specs.Printed.{end_text, text_of_line}
-use Rattle.pd_era_meaning.specs.Eras.{GivesEras, RootsBelow}
+use Rattle.pd_era_meaning.specs.Eras.{GivesEras, eras_below}
 use Rattle.pd_query.proofs.PutsLemmas.{one_told, two_told}
-use Rattle.pd_dumps.specs.EraGiven.{are_roots_below, given_eras}
 use Rattle.pd_dumps.specs.EraLines.{era_dump_text, rest_text, runs_text}
 
 -- the lines of the runs, and the last one
@@ -46,17 +44,6 @@ pub runs_lost : {whole left : List Line} (line : Line) (later : List Line) {old 
 runs_lost {whole} {left} line later so_far is begun =
     rw (so_far.split, is, flat_map-append (λ (line : Line). written era line ++ (10 ∷ [])) so_far.lines (line ∷ later)) (begun_after so_far.printed (begun_first (runs_text later) begun))
 
-some_test : (root blocks : ℕ) → ((root ≡ 0 → ⊥) → root < blocks) → (nat_eq root 0 || nat_lt root blocks) ≡ true
-some_test root blocks below = elim (cases_Bool (nat_eq root 0)) [
-  | inl none ↦ rw none refl
-  | inr some ↦ rw (some, lt-ltb root blocks (below (eqb-false root 0 some))) refl
-]
-
--- and only there
-pub are_below : (blocks : ℕ) (fields : EraFields) → RootsBelow blocks fields → are_roots_below blocks fields ≡ true
-are_below blocks fields below =
-    rw (lt-ltb fields.array_root blocks below.eras, lt-ltb fields.writesets_root blocks below.writesets, some_test fields.current_root blocks below.current) refl
-
 -- an image without faults has a block
 some_if_clean : (image : List (List ℕ)) → HasCleanSuper (era_checked image) image → 1 ≤ length image
 some_if_clean [] clean = absurd clean
@@ -66,25 +53,21 @@ pub has_some : (image : List (List ℕ)) → faults Era Whole image ≡ [] → 1
 unfolding faults
 has_some image none = some_if_clean image (clean_super_where_none (era_checked image) image (Walk ∷ Order ∷ Whole ∷ []) none)
 
--- the eras that are given are those of the meaning
-pub eras_are : (image : List (List ℕ)) → GivesEras image → given_eras image (era_fields (block_at image 0)) ≡ (era_meaning image).eras
-eras_are image gives = rw (are_below (length image) (era_fields (block_at image 0)) gives.roots) (sym gives.eras)
-
--- and the text is that of the meaning
-pub text_is : (image : List (List ℕ)) → given_eras image (era_fields (block_at image 0)) ≡ (era_meaning image).eras
-    → era_dump_text (era_fields (block_at image 0)) (given_eras image (era_fields (block_at image 0))) ≡ text_of_era (era_meaning image)
+-- the text of the eras that are given is that of the meaning
+pub text_is : (image : List (List ℕ)) → GivesEras image
+    → era_dump_text (era_fields (block_at image 0)) (eras_below image (era_fields (block_at image 0))) ≡ text_of_era (era_meaning image)
 unfolding text_of_era era_meaning
-text_is image same = ap (λ (eras : List ℕ). era_dump_text (era_fields (block_at image 0)) eras) same
+text_is image gives = ap (λ (eras : List ℕ). era_dump_text (era_fields (block_at image 0)) eras) (sym gives.eras)
 
 -- the text over the superblock that was read, and the eras that are given of it
 pub text_given : (held : Option (List (List ℕ))) (s : EraFields) (eras : List ℕ)
-    → IfSome held (λ image. 1 ≤ length image → s ≡ era_fields (block_at image 0)) → IfSome held (λ image. eras ≡ given_eras image s)
-    → IfSome held (λ image. 1 ≤ length image → era_dump_text s eras ≡ era_dump_text (era_fields (block_at image 0)) (given_eras image (era_fields (block_at image 0))))
+    → IfSome held (λ image. 1 ≤ length image → s ≡ era_fields (block_at image 0)) → IfSome held (λ image. eras ≡ eras_below image s)
+    → IfSome held (λ image. 1 ≤ length image → era_dump_text s eras ≡ era_dump_text (era_fields (block_at image 0)) (eras_below image (era_fields (block_at image 0))))
 text_given held s eras read given = two_told held (λ image read given some.
-    ap (λ (es : List ℕ). era_dump_text s es) given ∙ ap (λ (fields : EraFields). era_dump_text fields (given_eras image fields)) (read some)) read given
+    ap (λ (es : List ℕ). era_dump_text s es) given ∙ ap (λ (fields : EraFields). era_dump_text fields (eras_below image fields)) (read some)) read given
 
 pub text_means : (held : Option (List (List ℕ))) (text : List ℕ)
-    → IfSome held (λ image. 1 ≤ length image → text ≡ era_dump_text (era_fields (block_at image 0)) (given_eras image (era_fields (block_at image 0))))
-    → ((image : List (List ℕ)) → faults Era Whole image ≡ [] → era_dump_text (era_fields (block_at image 0)) (given_eras image (era_fields (block_at image 0))) ≡ text_of_era (era_meaning image))
+    → IfSome held (λ image. 1 ≤ length image → text ≡ era_dump_text (era_fields (block_at image 0)) (eras_below image (era_fields (block_at image 0))))
+    → ((image : List (List ℕ)) → faults Era Whole image ≡ [] → era_dump_text (era_fields (block_at image 0)) (eras_below image (era_fields (block_at image 0))) ≡ text_of_era (era_meaning image))
     → IfSome held (λ image. faults Era Whole image ≡ [] → text ≡ text_of_era (era_meaning image))
 text_means held text given law = one_told held (λ image given none. given (has_some image none) ∙ law image none) given

@@ -12,7 +12,7 @@ use Rattle.pd_kinds.specs.Graph.{block_at}
 use Rattle.pd_kinds.specs.Meaning.{era_meaning}
 use Rattle.pd_answers.specs.QueryLines.{begins_run, is_since, run_line, since_lines}
 use Rattle.pd_lines.specs.Printing.{Begun, Printed, Printing}
-use Rattle.pd_dumps.specs.EraGiven.{given_eras}
+use Rattle.pd_era_meaning.specs.Eras.{eras_below}
 use Rattle.pd_dumps.specs.SinceLines.{since_below, since_of, since_text}
 use Rattle.pd_lines.proofs.Printing.{begun_after, begun_first}
 
@@ -75,12 +75,12 @@ module _ (since : ℕ) (eras : List ℕ) where
   none_begins b begins = rw begins refl
 
 -- the lines of the eras that are given are those of the meaning
-given_lines : (since : ℕ) (image : List (List ℕ)) → given_eras image (era_fields (block_at image 0)) ≡ (era_meaning image).eras
-    → since_text since (given_eras image (era_fields (block_at image 0))) ≡ since_lines since (era_meaning image)
+given_lines : (since : ℕ) (image : List (List ℕ)) → eras_below image (era_fields (block_at image 0)) ≡ (era_meaning image).eras
+    → since_text since (eras_below image (era_fields (block_at image 0))) ≡ since_lines since (era_meaning image)
 unfolding since_lines
 given_lines since image same = ap (λ (eras : List ℕ). since_text since eras) same
 
 -- those over the superblock that is the image's own
-pub lines_are : (since : ℕ) (s : EraSuper) (image : List (List ℕ)) → s ≡ era_fields (block_at image 0) → given_eras image (era_fields (block_at image 0)) ≡ (era_meaning image).eras
-    → since_text since (given_eras image s) ≡ since_lines since (era_meaning image)
-lines_are since s image own same = ap (λ (fields : EraSuper). since_text since (given_eras image fields)) own ∙ given_lines since image same
+pub lines_are : (since : ℕ) (s : EraSuper) (image : List (List ℕ)) → s ≡ era_fields (block_at image 0) → eras_below image (era_fields (block_at image 0)) ≡ (era_meaning image).eras
+    → since_text since (eras_below image s) ≡ since_lines since (era_meaning image)
+lines_are since s image own same = ap (λ (fields : EraSuper). since_text since (eras_below image fields)) own ∙ given_lines since image same

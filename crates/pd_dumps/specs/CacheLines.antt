@@ -1,21 +1,11 @@
 -- The text of a cache, as it is dumped.
-use Rattle.std.specs.Prelude.{ℕ, ◌-◌, ◌%◌, ◌^◌, min, Bool, ◌&&◌, ◌||◌, ◌==◌, not, nat_lt, if◌then◌else◌, List, [], ◌∷◌, ◌++◌, length, map, slice_index}
-use Rattle.pd_kinds.specs.CacheFormat.{CacheFields, has_dirty_bits}
+use Rattle.std.specs.Prelude.{ℕ, ◌-◌, ◌%◌, ◌^◌, min, ◌==◌, List, [], ◌∷◌, ◌++◌, map, slice_index}
+use Rattle.pd_kinds.specs.CacheFormat.{CacheFields}
 use Rattle.pd_kinds.specs.Meaning.{CacheEntry}
 use Rattle.pd_grammar.specs.Texts.{text_of_lines}
 use Rattle.pd_spells.specs.CacheText.{Head, Line, cache, cache_line, end_line, first_line, flag_number, row_of}
 use Rattle.pd_cache_meaning.specs.declared.side_arrays.CacheRow.{CacheRow}
-use Rattle.pd_cache_meaning.specs.Rows.{has_hints, rows_below}
-
--- whether the roots that are read of a cache are below a number of blocks
-abbrev pub are_roots_below : ℕ → CacheFields → Bool
-are_roots_below blocks fields =
-    nat_lt fields.mapping_root blocks
-    && ((not (has_hints fields) || nat_lt fields.hint_root blocks) && (not (has_dirty_bits fields.version) || nat_lt fields.dirty_root blocks))
-
--- the rows of the cache with this superblock; there are none where a root is outside of the device
-abbrev pub super_rows : List (List ℕ) → CacheFields → List CacheRow
-super_rows image fields = if are_roots_below (length image) fields then rows_below image fields else []
+use Rattle.pd_cache_meaning.specs.Rows.{rows_below}
 
 -- a row as the entry that is put: its block is at most the greatest number of its field
 abbrev pub given_entry : CacheRow → CacheEntry
@@ -49,7 +39,7 @@ dump_lines fields rows = first_line ∷ (cache_line (super_head fields) ∷ rest
 
 -- the text of the cache with this superblock
 abbrev pub cache_dump_text : List (List ℕ) → CacheFields → List ℕ
-cache_dump_text image fields = text_of_lines cache (dump_lines fields (super_rows image fields))
+cache_dump_text image fields = text_of_lines cache (dump_lines fields (rows_below image fields))
 
 -- the text of rows, and that of the rest after them
 abbrev pub rows_text : List CacheRow → List ℕ

@@ -1,6 +1,6 @@
 //! The dump of a cache.
 
-use crate::cache_lines::{add_cache, maps_of};
+use crate::cache_lines::add_cache;
 use crate::laws::given_cache_lines_are_the_text;
 use crate::supers::read_cache;
 use pd_cache_meaning::CacheMaps;
@@ -14,12 +14,11 @@ use std::alloc::{AllocError, Global};
 #[derive(Drop)]
 pub struct CacheDump {
     s: CacheSuper,
-    /// The valid mappings; none where a root is outside of the device.
-    maps: Option<CacheMaps>,
+    maps: CacheMaps,
 }
 
 impl CacheDump {
-    ghost use Rattle.std.specs.Prelude.{◌≡◌, ◌<◌, ◌≤◌, ◌^◌, [], ℕ, List, IfOk, IfSome, length};
+    ghost use Rattle.std.specs.Prelude.{◌≡◌, ◌≤◌, [], ℕ, List, IfOk, IfSome, length};
     ghost use Rattle.pd_kinds.specs.declared.kind.Kind.TheVariants.{Cache};
     ghost use Rattle.pd_kinds.specs.declared.kind.Stage.TheVariants.{Whole};
     ghost use Rattle.pd_kinds.specs.CacheFormat.{cache_fields};
@@ -31,7 +30,7 @@ impl CacheDump {
     ghost use Rattle.pd_spells.specs.CacheText.{text_of_cache};
     ghost use Rattle.pd_query.specs.Puts.{PutsText};
     ghost use Rattle.pd_query.specs.Failing.{Fails, StartFails};
-    ghost use Rattle.pd_dumps.specs.CacheDump.{dump_room, text_left};
+    ghost use Rattle.pd_dumps.specs.CacheDump.{text_left};
     ghost use Rattle.pd_dumps.specs.CacheLines.{cache_dump_text};
 
     /// Reads the superblock of a cache, and takes the memory for its dump: at most three cursors over arrays.
@@ -41,7 +40,6 @@ impl CacheDump {
         requires { IsAttached (D.state dev.old) }
         ensures text { IfOk result (λ dump. IfSome (D.state dev.old).held (λ image. 1 ≤ length image → text_left image dump ≡ cache_dump_text image (cache_fields (block_at image 0)))) }
         ensures means { IfOk result (λ dump. IfSome (D.state dev.old).held (λ image. faults Cache Whole image ≡ [] → text_left image dump ≡ text_of_cache (cache_meaning image))) }
-        ensures room { IfOk result (λ dump. dump_room dump ≤ (D.state dev.old).blocks) }
         ensures kept { OnlyReads (D.state dev.old) (D.state dev.new) }
         ensures faults { StartFails result (D.state dev.old).faults (D.state dev.new).faults }
     {
@@ -50,18 +48,15 @@ impl CacheDump {
             Ok(s) => s,
             Err(_) => return Err(QueryFault::Device),
         };
-        match CacheDump::with_super(alloc, s, dev.blocks()) {
-            Ok(dump) => Ok(dump),
-            Err(_) => Err(QueryFault::Memory),
-        }
+        let dump = CacheDump::with_super(alloc, s)?;
+        Ok(dump)
     }
 
-    /// Takes the memory for the dump of the cache with this superblock, in a device of so many blocks.
-    fn with_super(alloc: Global, s: CacheSuper, blocks: u64) -> Result<CacheDump, AllocError>
-        ensures text { (image : List (List ℕ)) → length image ≡ blocks → IfOk result (λ dump. text_left image dump ≡ cache_dump_text image s) }
-        ensures room { IfOk result (λ dump. dump_room dump ≤ blocks) }
+    /// Takes the memory for the dump of the cache with this superblock.
+    fn with_super(alloc: Global, s: CacheSuper) -> Result<CacheDump, AllocError>
+        ensures text { (image : List (List ℕ)) → IfOk result (λ dump. text_left image dump ≡ cache_dump_text image s) }
     {
-        let maps = maps_of(alloc, &s, blocks)?;
+        let maps = CacheMaps::start(alloc, &s)?;
         Ok(CacheDump { s, maps })
     }
 
@@ -71,7 +66,6 @@ impl CacheDump {
     pub fn put<D: Device, K: Sink>(&mut self, dev: &mut D, out: &mut K) -> Result<(), QueryFault>
         requires dev { IsAttached (D.state dev.old) }
         requires out { (K.state out.old).access ≡ 1 }
-        requires within { dump_room self.old ≤ (D.state dev.old).blocks }
         ensures text { PutsText (D.state dev.old).held (λ image. text_left image self.old) result (K.state out.old).written (K.state out.new).written }
         ensures kept { OnlyReads (D.state dev.old) (D.state dev.new) }
         ensures sink { KeepsSink (K.state out.old) (K.state out.new) }
@@ -88,12 +82,12 @@ impl CacheDump {
 pub struct TextOfCache;
 
 impl Query for TextOfCache {
-    ghost use Rattle.std.specs.Prelude.{◌≡◌, ◌≤◌};
+    ghost use Rattle.std.specs.Prelude.{◌≡◌};
     ghost use Rattle.pd_kinds.specs.declared.kind.Kind.TheVariants.{Cache};
     ghost use Rattle.pd_kinds.specs.Meaning.{cache_meaning};
     ghost use Rattle.pd_spells.specs.CacheText.{text_of_cache};
     ghost use Rattle.pd_query.specs.Sound.{IfSound};
-    ghost use Rattle.pd_dumps.specs.CacheDump.{dump_room, text_left};
+    ghost use Rattle.pd_dumps.specs.CacheDump.{text_left};
 
     type Started = CacheDump;
 
@@ -101,8 +95,7 @@ impl Query for TextOfCache {
 
     ghost answer = { λ query image. text_of_cache (cache_meaning image) };
 
-    ghost IsOver = { λ query dump held blocks. (dump_room dump ≤ blocks)
-        × IfSound Cache held (λ image. text_left image dump ≡ text_of_cache (cache_meaning image)) };
+    ghost IsOver = { λ query dump held. IfSound Cache held (λ image. text_left image dump ≡ text_of_cache (cache_meaning image)) };
 
     fn start<D: Device>(&self, alloc: Global, dev: &mut D) -> Result<CacheDump, QueryFault> {
         CacheDump::start(alloc, dev)

@@ -1,6 +1,6 @@
 //! The lines of a cache, printed.
 
-ghost use Rattle.std.specs.Prelude.{◌≡◌, ◌≤◌, ℕ, List, IfOk, length};
+ghost use Rattle.std.specs.Prelude.{◌≡◌};
 ghost use Rattle.pd_image.specs.Device.{IsAttached, OnlyReads};
 ghost use Rattle.pd_lines.specs.Printer.{printing};
 ghost use Rattle.pd_lines.specs.Printing.{Prints};
@@ -9,11 +9,10 @@ ghost use Rattle.pd_spells.specs.CacheText.{cache};
 ghost use Rattle.pd_grammar.specs.Texts.{text_of_lines};
 ghost use Rattle.pd_texts.specs.Printed.{text_of_line};
 ghost use Rattle.pd_cache_texts.specs.CacheLine.{line_of};
-ghost use Rattle.pd_cache_meaning.specs.Rows.{rows_left, rows_room};
+ghost use Rattle.pd_cache_meaning.specs.Rows.{rows_left};
 ghost use Rattle.pd_query.specs.Puts.{PrintsSome};
 ghost use Rattle.pd_query.specs.Failing.{Fails, SinkFails};
-ghost use Rattle.pd_dumps.specs.CacheDump.{some_room, some_rows};
-ghost use Rattle.pd_dumps.specs.CacheLines.{are_roots_below, dump_lines, given_line, rows_text, super_head, super_rows};
+ghost use Rattle.pd_dumps.specs.CacheLines.{dump_lines, given_line, rows_text, super_head};
 
 use pd_cache_meaning::{CacheMaps, CacheRow};
 use pd_cache_texts::CacheLine;
@@ -22,7 +21,6 @@ use pd_kinds::{CacheSuper, Kind};
 use pd_lines::Printer;
 use pd_query::{QueryFault, print_line, print_text_line};
 use pd_texts::{bytes_of_end, bytes_of_first};
-use std::alloc::{AllocError, Global};
 
 /// The line of a cache.
 fn cache_line(s: &CacheSuper) -> CacheLine
@@ -59,7 +57,6 @@ fn add_rows<D: Device, K: Sink>(
 ) -> Result<(), QueryFault>
     requires dev { IsAttached (D.state dev.old) }
     requires open { (K.state printer.old.out.now).access ≡ 1 }
-    requires within { rows_room maps.old ≤ (D.state dev.old).blocks }
     ensures same_reference { printer.new.out.ghost_name ≡ printer.old.out.ghost_name }
     ensures prints { PrintsSome (D.state dev.old).held (λ image. rows_text (rows_left image maps.old)) result (printing K.state printer.old) (printing K.state printer.new) }
     ensures kept { OnlyReads (D.state dev.old) (D.state dev.new) }
@@ -77,72 +74,22 @@ fn add_rows<D: Device, K: Sink>(
     }
 }
 
-/// Prints the lines of the mappings that are left, if there are any.
-fn add_some_rows<D: Device, K: Sink>(
-    maps: &mut Option<CacheMaps>,
-    dev: &mut D,
-    printer: &mut Printer<'_, K>,
-) -> Result<(), QueryFault>
-    requires dev { IsAttached (D.state dev.old) }
-    requires open { (K.state printer.old.out.now).access ≡ 1 }
-    requires within { some_room maps.old ≤ (D.state dev.old).blocks }
-    ensures same_reference { printer.new.out.ghost_name ≡ printer.old.out.ghost_name }
-    ensures prints { PrintsSome (D.state dev.old).held (λ image. rows_text (some_rows image maps.old)) result (printing K.state printer.old) (printing K.state printer.new) }
-    ensures kept { OnlyReads (D.state dev.old) (D.state dev.new) }
-    ensures faults { Fails result (D.state dev.old).faults (D.state dev.new).faults (K.state printer.old.out.now).faults (K.state printer.new.out.now).faults }
-{
-    match maps {
-        Some(maps) => add_rows(maps, dev, printer),
-        None => Ok(()),
-    }
-}
-
 /// Prints the lines of a cache, from the first one to the last.
 pub(crate) fn add_cache<D: Device, K: Sink>(
     s: &CacheSuper,
-    maps: &mut Option<CacheMaps>,
+    maps: &mut CacheMaps,
     dev: &mut D,
     printer: &mut Printer<'_, K>,
 ) -> Result<(), QueryFault>
     requires dev { IsAttached (D.state dev.old) }
     requires open { (K.state printer.old.out.now).access ≡ 1 }
-    requires within { some_room maps.old ≤ (D.state dev.old).blocks }
     ensures same_reference { printer.new.out.ghost_name ≡ printer.old.out.ghost_name }
-    ensures prints { PrintsSome (D.state dev.old).held (λ image. text_of_lines cache (dump_lines s.now (some_rows image maps.old))) result (printing K.state printer.old) (printing K.state printer.new) }
+    ensures prints { PrintsSome (D.state dev.old).held (λ image. text_of_lines cache (dump_lines s.now (rows_left image maps.old))) result (printing K.state printer.old) (printing K.state printer.new) }
     ensures kept { OnlyReads (D.state dev.old) (D.state dev.new) }
     ensures faults { Fails result (D.state dev.old).faults (D.state dev.new).faults (K.state printer.old.out.now).faults (K.state printer.new.out.now).faults }
 {
     print_line(bytes_of_first(Kind::Cache), printer)?;
     print_text_line(&cache_line(s), printer)?;
-    add_some_rows(maps, dev, printer)?;
+    add_rows(maps, dev, printer)?;
     print_line(bytes_of_end(), printer)
-}
-
-/// Whether the roots that are read of a cache are below a number of blocks.
-fn are_roots_below(s: &CacheSuper, blocks: u64) -> bool
-    ensures { result ≡ are_roots_below blocks s.now }
-{
-    let no_hints = s.hint_size != 4 || s.hint_root == 0;
-    let mappings = s.mapping_root < blocks;
-    let hints = no_hints || s.hint_root < blocks;
-    let dirty = s.version != 2 || s.dirty_root < blocks;
-    mappings & hints & dirty
-}
-
-/// The mappings of the cache with this superblock, in a device of so many blocks; none where a root is outside of it.
-///
-/// Fails with `AllocError` where the memory for the cursors wasn't found.
-pub(crate) fn maps_of(
-    alloc: Global,
-    s: &CacheSuper,
-    blocks: u64,
-) -> Result<Option<CacheMaps>, AllocError>
-    ensures rows { (image : List (List ℕ)) → length image ≡ blocks → IfOk result (λ maps. some_rows image maps ≡ super_rows image s.now) }
-    ensures room { IfOk result (λ maps. some_room maps ≤ blocks) }
-{
-    if !are_roots_below(s, blocks) {
-        return Ok(None);
-    }
-    let maps = CacheMaps::start(alloc, s)?;
-    Ok(Some(maps))
 }

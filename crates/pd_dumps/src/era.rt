@@ -13,7 +13,6 @@ use std::alloc::Global;
 #[derive(Drop)]
 pub struct EraDump {
     s: EraSuper,
-    /// The eras; none where a root is outside of the device.
     eras: Vec<u32>,
     ghost few: { length eras.items < 2 ^ 32 },
 }
@@ -34,7 +33,7 @@ impl EraDump {
     ghost use Rattle.pd_spells.specs.EraText.{text_of_era};
     ghost use Rattle.pd_query.specs.Failing.{SinkFails, StartFails};
     ghost use Rattle.pd_dumps.specs.EraDump.{text_left};
-    ghost use Rattle.pd_dumps.specs.EraGiven.{given_eras};
+    ghost use Rattle.pd_era_meaning.specs.Eras.{eras_below};
     ghost use Rattle.pd_dumps.specs.EraLines.{era_dump_text};
 
     /// Reads the superblock of an era target, and the era of each block, in four bytes a block.
@@ -43,7 +42,7 @@ impl EraDump {
     pub fn start<D: Device>(alloc: Global, dev: &mut D) -> Result<EraDump, QueryFault>
         requires { IsAttached (D.state dev.old) }
         ensures text { IfOk result (λ dump. IfSome (D.state dev.old).held (λ image. 1 ≤ length image
-            → text_left dump ≡ era_dump_text (era_fields (block_at image 0)) (given_eras image (era_fields (block_at image 0))))) }
+            → text_left dump ≡ era_dump_text (era_fields (block_at image 0)) (eras_below image (era_fields (block_at image 0))))) }
         ensures means { IfOk result (λ dump. IfSome (D.state dev.old).held (λ image. faults Era Whole image ≡ [] → text_left dump ≡ text_of_era (era_meaning image))) }
         ensures kept { OnlyReads (D.state dev.old) (D.state dev.new) }
         ensures faults { StartFails result (D.state dev.old).faults (D.state dev.new).faults }
@@ -89,7 +88,7 @@ impl Query for TextOfEra {
 
     ghost answer = { λ query image. text_of_era (era_meaning image) };
 
-    ghost IsOver = { λ query dump held blocks. IfSound Era held (λ image. text_left dump ≡ text_of_era (era_meaning image)) };
+    ghost IsOver = { λ query dump held. IfSound Era held (λ image. text_left dump ≡ text_of_era (era_meaning image)) };
 
     fn start<D: Device>(&self, alloc: Global, dev: &mut D) -> Result<EraDump, QueryFault> {
         EraDump::start(alloc, dev)

@@ -11,8 +11,8 @@ ghost use Rattle.pd_kinds.specs.Meaning.{cache_meaning, era_meaning};
 ghost use Rattle.pd_kinds.specs.Stages.{faults};
 ghost use Rattle.pd_spells.specs.CacheText.{text_of_cache};
 ghost use Rattle.pd_spells.specs.EraText.{text_of_era};
+ghost use Rattle.pd_era_meaning.specs.Eras.{eras_below};
 ghost use Rattle.pd_dumps.specs.CacheLines.{cache_dump_text};
-ghost use Rattle.pd_dumps.specs.EraGiven.{given_eras};
 ghost use Rattle.pd_dumps.specs.EraLines.{era_dump_text};
 
 use pd_cache_meaning::rows_are_the_entries;
@@ -28,17 +28,11 @@ pub fn given_cache_lines_are_the_text()
     superblocks_lead_to_reached_roots();
 }
 
-/// The eras that are given of an era target without faults up to the stage Whole are those of its meaning.
-pub fn given_eras_are_the_eras()
-    ensures { (image : List (List ℕ)) → faults Era Whole image ≡ [] → given_eras image (era_fields (block_at image 0)) ≡ (era_meaning image).eras }
-{
-    lists_are_the_eras();
-}
-
-/// The lines of those eras, with the lines around them, are its text.
+/// The lines of the eras that are given of an era target without faults up to the stage Whole, with the lines around them,
+/// are its text.
 pub fn given_era_lines_are_the_text()
     ensures { (image : List (List ℕ)) → faults Era Whole image ≡ []
-        → era_dump_text (era_fields (block_at image 0)) (given_eras image (era_fields (block_at image 0))) ≡ text_of_era (era_meaning image) }
+        → era_dump_text (era_fields (block_at image 0)) (eras_below image (era_fields (block_at image 0))) ≡ text_of_era (era_meaning image) }
 {
-    given_eras_are_the_eras();
+    lists_are_the_eras();
 }

@@ -17,8 +17,6 @@ mod supers;
 
 pub use cache::{CacheDump, TextOfCache};
 pub use era::{EraDump, TextOfEra};
-pub use laws::{
-    given_cache_lines_are_the_text, given_era_lines_are_the_text, given_eras_are_the_eras,
-};
+pub use laws::{given_cache_lines_are_the_text, given_era_lines_are_the_text};
 pub use since::{WrittenSince, written_since};
 pub use supers::read_era;

@@ -4,15 +4,15 @@ ghost use Rattle.std.specs.Prelude.{◌≡◌};
 ghost use Rattle.pd_image.specs.Device.{IsAttached, OnlyReads};
 ghost use Rattle.pd_image.specs.Sink.{KeepsSink};
 ghost use Rattle.pd_answers.specs.QueryLines.{since_lines};
+ghost use Rattle.pd_era_meaning.specs.Eras.{eras_below};
 ghost use Rattle.pd_query.specs.Puts.{PutsText};
 ghost use Rattle.pd_query.specs.Failing.{QueryEnds};
-ghost use Rattle.pd_dumps.specs.EraGiven.{given_eras};
 ghost use Rattle.pd_dumps.specs.SinceLines.{PutsLines, since_text};
 
 use crate::eras_given::eras_of;
-use crate::laws::given_eras_are_the_eras;
 use crate::since_lines::put_since;
 use crate::supers::read_era;
+use pd_era_meaning::lists_are_the_eras;
 use pd_image::{Device, Sink};
 use pd_kinds::EraSuper;
 use pd_query::{Query, QueryFault};
@@ -32,13 +32,13 @@ pub fn written_since<D: Device, K: Sink>(
 ) -> Result<(), QueryFault>
     requires dev { IsAttached (D.state dev.old) }
     requires out { (K.state out.old).access ≡ 1 }
-    ensures text { PutsText (D.state dev.old).held (λ image. since_text era (given_eras image s.now)) result (K.state out.old).written (K.state out.new).written }
+    ensures text { PutsText (D.state dev.old).held (λ image. since_text era (eras_below image s.now)) result (K.state out.old).written (K.state out.new).written }
     ensures lines { PutsLines (since_lines era) s.now result (D.state dev.old).held (K.state out.old).written (K.state out.new).written }
     ensures kept { OnlyReads (D.state dev.old) (D.state dev.new) }
     ensures sink { KeepsSink (K.state out.old) (K.state out.new) }
     ensures faults { QueryEnds result (D.state dev.old).faults (D.state dev.new).faults (K.state out.old).faults (K.state out.new).faults }
 {
-    given_eras_are_the_eras();
+    lists_are_the_eras();
     let eras = eras_of(alloc, dev, s)?;
     put_since(era, eras.as_slice(), out)
 }
@@ -64,7 +64,7 @@ impl Query for WrittenSince {
 
     ghost answer = { λ query image. since_lines query.era (era_meaning image) };
 
-    ghost IsOver = { λ query s held blocks. IfSound Era held (λ image. s ≡ era_fields (block_at image 0)) };
+    ghost IsOver = { λ query s held. IfSound Era held (λ image. s ≡ era_fields (block_at image 0)) };
 
     fn start<D: Device>(&self, alloc: Global, dev: &mut D) -> Result<EraSuper, QueryFault> {
         match read_era(dev) {

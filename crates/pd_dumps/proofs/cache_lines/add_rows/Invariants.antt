@@ -1,7 +1,7 @@
-use Rattle.std.proofs.Common.{◌≡◌, ◌≤◌}
+use Rattle.std.proofs.Common.{◌≡◌}
 use Rattle.pd_image.specs.Device.{OnlyReads}
 use Rattle.pd_lines.specs.Printer.{printing}
-use Rattle.pd_cache_meaning.specs.Rows.{rows_left, rows_number, rows_room}
+use Rattle.pd_cache_meaning.specs.Rows.{rows_left, rows_number}
 use Rattle.pd_query.proofs.PutsLemmas.{PrintsSoFar}
 use Rattle.pd_dumps.specs.CacheLines.{rows_text}
 use Rattle.pd_dumps.proofs.cache_lines.add_rows.Given as goal
@@ -11,7 +11,6 @@ invariant-loop-row g l = record {
   same_reference : l.printer.out.ghost_name ≡ l.initial.printer.out.ghost_name;
   so_far : PrintsSoFar (g.D.Device.state l.initial.dev).held (λ image. rows_text (rows_left image l.initial.maps)) (λ image. rows_text (rows_left image l.maps))
       (printing g.K.Sink.state l.initial.printer) (printing g.K.Sink.state l.printer);
-  room : rows_room l.maps ≤ rows_room l.initial.maps;
   kept : OnlyReads (g.D.Device.state l.initial.dev) (g.D.Device.state l.dev);
   dev_faults : (g.D.Device.state l.dev).faults ≡ (g.D.Device.state l.initial.dev).faults;
   out_faults : (g.K.Sink.state l.printer.out.now).faults ≡ (g.K.Sink.state l.initial.printer.out.now).faults;

@@ -1,10 +1,10 @@
-use Rattle.std.proofs.Common.{refl, ◌∙◌, ap}
+use Rattle.std.proofs.Common.{refl, ◌∙◌, ap, sym}
 use Rattle.std.proofs.lemmas.Result.{err_from_is_err_and}
 use Rattle.pd_kinds.specs.Meaning.{era_meaning}
 use Rattle.pd_answers.specs.QueryLines.{since_lines}
 use Rattle.pd_query.proofs.PutsLemmas.{one_told}
 use Rattle.pd_query.proofs.QueryLemmas.{puts_none}
-use Rattle.pd_dumps.specs.EraGiven.{given_eras}
+use Rattle.pd_era_meaning.specs.Eras.{eras_below}
 use Rattle.pd_dumps.specs.SinceLines.{since_text}
 use Rattle.pd_dumps.proofs.SinceLemmas.{lines_are}
 use Rattle.pd_dumps.proofs.since.written_since.Goals as goal
@@ -12,7 +12,7 @@ use Rattle.pd_dumps.proofs.since.written_since.Goals as goal
 pub returns-in_err-eras-clause-text : goal.returns-in_err-eras-clause-text
 returns-in_err-eras-clause-text g c =
     let p = err_from_is_err_and c.from_residual.result c.from_residual.ensures.1 in
-    rw (p.1, p.2) (puts_none (g.D.Device.state c.args.dev.now).held (λ image. since_text c.args.era (given_eras image c.args.s.now)) c.in_err-eras.field-0.0 refl (λ image. refl))
+    rw (p.1, p.2) (puts_none (g.D.Device.state c.args.dev.now).held (λ image. since_text c.args.era (eras_below image c.args.s.now)) c.in_err-eras.field-0.0 refl (λ image. refl))
 
 pub returns-in_err-eras-clause-lines : goal.returns-in_err-eras-clause-lines
 returns-in_err-eras-clause-lines g c =
@@ -32,7 +32,7 @@ returns-clause-lines g c = record {
   text = since_text c.args.era c.in_ok-eras.eras.items;
   told =
       one_told (g.D.Device.state c.args.dev.now).held
-      (λ image is own none. ap (since_text c.args.era) is ∙ lines_are c.args.era c.args.s.now image own (c.given_eras_are_the_eras.ensures image none)) c.in_ok-eras.ensures.eras;
+      (λ image is own none. ap (since_text c.args.era) is ∙ lines_are c.args.era c.args.s.now image own (sym (c.lists_are_the_eras.ensures image none).eras)) c.in_ok-eras.ensures.eras;
   whole = rw c.as_slice.ensures.value at c.put_since.ensures.whole;
   front = rw c.as_slice.ensures.value at c.put_since.ensures.front;
 }
