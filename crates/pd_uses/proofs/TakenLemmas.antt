@@ -1,11 +1,9 @@
 -- Uses that are taken, one call after another.
-use Rattle.std.proofs.Common.{◌≡◌, ℕ, List, [], ◌∷◌, ◌++◌, Option, None, Some, IfSome, map, length, ◌≤◌, refl, sym, ap, ◌∙◌, append_assoc, ap₂}
+use Rattle.std.proofs.Common.{◌≡◌, ℕ, List, [], ◌∷◌, ◌++◌, Option, None, Some, IfSome, map, refl, sym, ap, ◌∙◌, append_assoc, ap₂}
 use Rattle.std.proofs.lemmas.List.{append-nil}
 use Rattle.std.proofs.lemmas.List.Elements.{filter_map-append}
 use Rattle.pd_value.specs.declared.thin.BlockTime.{BlockTime}
-use Rattle.pd_tree.proofs.NextLemmas.{items_outside}
 use Rattle.pd_thin_meaning.specs.declared.devices.DeviceRow.{DeviceRow}
-use Rattle.pd_thin_meaning.specs.Items.{block_time_of}
 use Rattle.pd_thin_meaning.specs.Joined.{mapping_of}
 use Rattle.pd_query.proofs.PutsLemmas.{each_told, one_told, two_told}
 use Rattle.pd_uses.specs.declared.data_use.DataUse.{DataUse}
@@ -68,10 +66,6 @@ module _ {T : Type 0} (has_taken : T → List (Option DataUse) → T → Type 0)
 pub entry_first : (id : ℕ) (item : ℕ × BlockTime) (left later : List (ℕ × BlockTime)) → left ≡ item ∷ later
     → map Some (map (use_by id) (map mapping_of left)) ≡ (Some (use_by id (mapping_of item)) ∷ []) ++ map Some (map (use_by id) (map mapping_of later))
 entry_first id item left later is = rw is refl
-
--- no use by a row whose root is outside of the image
-pub none_outside : (image : List (List ℕ)) (row : DeviceRow) → length image ≤ row.root → map Some (row_uses image row) ≡ []
-none_outside image row outside = rw (items_outside 8 block_time_of image 63 row.root outside) refl
 
 -- the uses among what is told, with a device more or a use more
 pub told_device : (before : List (Option DataUse)) → uses_told (before ++ (None ∷ [])) ≡ uses_told before

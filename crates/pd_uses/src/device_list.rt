@@ -1,12 +1,12 @@
 //! The list of a pool's devices.
 
-ghost use Rattle.std.specs.Prelude.{◌≡◌, ◌≤◌, drop, slice_index};
+ghost use Rattle.std.specs.Prelude.{◌≡◌, drop, slice_index};
 ghost use Rattle.pd_image.specs.Device.{IsAttached, OnlyReads};
 ghost use Rattle.pd_image.specs.Sink.{KeepsSink};
 ghost use Rattle.pd_lines.specs.Printer.{printing};
 ghost use Rattle.pd_lines.specs.Printing.{Prints};
 ghost use Rattle.pd_answers.specs.QueryLines.{device_list_lines};
-ghost use Rattle.pd_thin_meaning.specs.Devices.{rows_left, rows_room};
+ghost use Rattle.pd_thin_meaning.specs.Devices.{rows_left};
 ghost use Rattle.pd_thin_meaning.specs.Given.{super_rows};
 ghost use Rattle.pd_query.specs.Puts.{PrintsSome, PutsText};
 ghost use Rattle.pd_query.specs.Failing.{QueryEnds, SinkFails};
@@ -18,7 +18,7 @@ use crate::walk::super_to_ask;
 use pd_image::{Device, Sink};
 use pd_kinds::ThinSuper;
 use pd_lines::{LineBuffer, Printer};
-use pd_query::{Query, QueryFault, devices_of, finish, print_line};
+use pd_query::{Query, QueryFault, finish, print_line};
 use pd_thin_meaning::{DeviceRow, ThinDevices, rows_are_the_devices};
 use std::alloc::Global;
 
@@ -82,14 +82,8 @@ fn add_devices<D: Device, K: Sink>(
     ensures kept { OnlyReads (D.state dev.old) (D.state dev.new) }
     ensures faults { QueryEnds result (D.state dev.old).faults (D.state dev.new).faults (K.state printer.old.out.now).faults (K.state printer.new.out.now).faults }
 {
-    let devices = match devices_of(alloc, s, dev.blocks()) {
-        Ok(devices) => devices,
-        Err(_) => return Err(QueryFault::Memory),
-    };
-    match devices {
-        Some(mut devices) => add_rows(&mut devices, exclusive, dev, printer),
-        None => Ok(()),
-    }
+    let mut devices = ThinDevices::start(alloc, s)?;
+    add_rows(&mut devices, exclusive, dev, printer)
 }
 
 /// Prints the lines of the devices that are left.
@@ -101,7 +95,6 @@ fn add_rows<D: Device, K: Sink>(
 ) -> Result<(), QueryFault>
     requires dev { IsAttached (D.state dev.old) }
     requires open { (K.state printer.old.out.now).access ≡ 1 }
-    requires within { rows_room devices.old ≤ (D.state dev.old).blocks }
     ensures same_reference { printer.new.out.ghost_name ≡ printer.old.out.ghost_name }
     ensures prints { PrintsSome (D.state dev.old).held (λ image. tallied_rows exclusive.now (rows_left image devices.old)) result (printing K.state printer.old) (printing K.state printer.new) }
     ensures kept { OnlyReads (D.state dev.old) (D.state dev.new) }
@@ -197,7 +190,7 @@ impl Query for DeviceList {
 
     ghost answer = { λ query image. device_list_lines (thin_meaning image) };
 
-    ghost IsOver = { λ query s held blocks. IfSound Thin held (λ image. s ≡ thin_fields (block_at image 0)) };
+    ghost IsOver = { λ query s held. IfSound Thin held (λ image. s ≡ thin_fields (block_at image 0)) };
 
     fn start<D: Device>(&self, alloc: Global, dev: &mut D) -> Result<ThinSuper, QueryFault> {
         super_to_ask(dev)

@@ -106,7 +106,7 @@ impl Query for ReverseMap {
 
     ghost answer = { λ query image. rmap_lines query.first query.end (thin_meaning image) };
 
-    ghost IsOver = { λ query s held blocks. IfSound Thin held (λ image. s ≡ thin_fields (block_at image 0)) };
+    ghost IsOver = { λ query s held. IfSound Thin held (λ image. s ≡ thin_fields (block_at image 0)) };
 
     fn start<D: Device>(&self, alloc: Global, dev: &mut D) -> Result<ThinSuper, QueryFault> {
         super_to_ask(dev)

@@ -1,12 +1,11 @@
 //! All mappings of a pool, as uses of its data blocks, given to what takes them.
 
-ghost use Rattle.std.specs.Prelude.{◌≡◌, ◌≤◌, Some, map, IfOk, OnOk};
+ghost use Rattle.std.specs.Prelude.{◌≡◌, Some, map, IfOk, OnOk};
 ghost use Rattle.pd_kinds.specs.declared.kind.Kind.TheVariants.{Thin};
 ghost use Rattle.pd_kinds.specs.Graph.{block_at};
 ghost use Rattle.pd_kinds.specs.ThinSuper.{thin_fields};
 ghost use Rattle.pd_image.specs.Device.{IsAttached, OnlyReads};
-ghost use Rattle.pd_tree.specs.Cursor.{cursor_room};
-ghost use Rattle.pd_thin_meaning.specs.Devices.{rows_left, rows_room};
+ghost use Rattle.pd_thin_meaning.specs.Devices.{rows_left};
 ghost use Rattle.pd_query.specs.Failing.{StartFails};
 ghost use Rattle.pd_query.specs.Sound.{IfSound};
 ghost use Rattle.pd_uses.specs.Taken.{TakesUses};
@@ -15,7 +14,7 @@ ghost use Rattle.pd_uses.specs.Uses.{row_uses, rows_told, super_told, uses_left}
 use crate::data_use::{DataUse, TakesUses};
 use pd_image::Device;
 use pd_kinds::ThinSuper;
-use pd_query::{QueryFault, devices_of, read_super};
+use pd_query::{QueryFault, read_super};
 use pd_thin_meaning::{DeviceRow, ThinDevices, rows_are_the_devices};
 use pd_tree::Cursor;
 use pd_value::BlockTime;
@@ -29,7 +28,6 @@ fn take_left<T: TakesUses, D: Device>(
     taker: &mut T,
 ) -> Result<(), QueryFault>
     requires dev { IsAttached (D.state dev.old) }
-    requires within { cursor_room mappings.old ≤ (D.state dev.old).blocks }
     ensures taken { OnOk result (TakesUses T.has_taken (D.state dev.old).held (λ image. map Some (uses_left image id mappings.old)) taker.old taker.new) }
     ensures kept { OnlyReads (D.state dev.old) (D.state dev.new) }
     ensures faults { StartFails result (D.state dev.old).faults (D.state dev.new).faults }
@@ -40,20 +38,17 @@ fn take_left<T: TakesUses, D: Device>(
             Err(_) => return Err(QueryFault::Device),
         };
         match entry {
-            Some((virt, mapping)) => match taker.take(DataUse {
+            Some((virt, mapping)) => taker.take(DataUse {
                 block: mapping.block,
                 id,
                 virt,
-            }) {
-                Ok(()) => {}
-                Err(_) => return Err(QueryFault::Memory),
-            },
+            })?,
             None => return Ok(()),
         }
     }
 }
 
-/// Gives the uses by a device. There are none below a root outside of the device of blocks.
+/// Gives the uses by a device.
 fn take_row<T: TakesUses, D: Device>(
     row: &DeviceRow,
     mappings: &mut Cursor<BlockTime>,
@@ -65,11 +60,7 @@ fn take_row<T: TakesUses, D: Device>(
     ensures kept { OnlyReads (D.state dev.old) (D.state dev.new) }
     ensures faults { StartFails result (D.state dev.old).faults (D.state dev.new).faults }
 {
-    let root = row.root;
-    if root >= dev.blocks() {
-        return Ok(());
-    }
-    mappings.restart(root);
+    mappings.restart(row.root);
     take_left(row.id, mappings, dev, taker)
 }
 
@@ -81,7 +72,6 @@ fn take_rows<T: TakesUses, D: Device>(
     taker: &mut T,
 ) -> Result<(), QueryFault>
     requires dev { IsAttached (D.state dev.old) }
-    requires within { rows_room devices.old ≤ (D.state dev.old).blocks }
     ensures taken { OnOk result (TakesUses T.has_taken (D.state dev.old).held (λ image. rows_told image (rows_left image devices.old)) taker.old taker.new) }
     ensures kept { OnlyReads (D.state dev.old) (D.state dev.new) }
     ensures faults { StartFails result (D.state dev.old).faults (D.state dev.new).faults }
@@ -92,10 +82,10 @@ fn take_rows<T: TakesUses, D: Device>(
             Err(_) => return Err(QueryFault::Device),
         };
         match row {
-            Some(row) => match taker.begin() {
-                Ok(()) => take_row(&row, mappings, dev, taker)?,
-                Err(_) => return Err(QueryFault::Memory),
-            },
+            Some(row) => {
+                taker.begin()?;
+                take_row(&row, mappings, dev, taker)?;
+            }
             None => return Ok(()),
         }
     }
@@ -114,18 +104,9 @@ pub(crate) fn take_pool<T: TakesUses, D: Device>(
     ensures kept { OnlyReads (D.state dev.old) (D.state dev.new) }
     ensures faults { StartFails result (D.state dev.old).faults (D.state dev.new).faults }
 {
-    let mut mappings = match Cursor::start(alloc, s.mapping_root) {
-        Ok(mappings) => mappings,
-        Err(_) => return Err(QueryFault::Memory),
-    };
-    let devices = match devices_of(alloc, s, dev.blocks()) {
-        Ok(devices) => devices,
-        Err(_) => return Err(QueryFault::Memory),
-    };
-    match devices {
-        Some(mut devices) => take_rows(&mut devices, &mut mappings, dev, taker),
-        None => Ok(()),
-    }
+    let mut mappings = Cursor::start(alloc, s.mapping_root)?;
+    let mut devices = ThinDevices::start(alloc, s)?;
+    take_rows(&mut devices, &mut mappings, dev, taker)
 }
 
 /// The superblock of a pool that is to be asked.

@@ -1,4 +1,4 @@
-use Rattle.std.proofs.Common.{Some, None, Ok, Err, IfSome, refl, ap, ◌∙◌, subst, arith}
+use Rattle.std.proofs.Common.{Some, None, Ok, Err, IfSome, refl, ap, ◌∙◌, subst}
 use Rattle.pd_image.proofs.ReadLemmas.{only_reads_both}
 use Rattle.pd_tree.specs.Next.{IsNext}
 use Rattle.pd_thin_meaning.specs.declared.devices.DeviceRow.{DeviceRow}
@@ -31,8 +31,6 @@ returns-in-None-clause-prints g c =
 
 pub loop-row-preserved : goal.loop-row-preserved
 loop-row-preserved g c =
-    let before = c.loop-row.invariant.room in
-    let room = c.in-Ok.ensures.room in
     record {
       same_reference = c.in_ok-add_parts-in-Some.ensures.same_reference ∙ c.loop-row.invariant.same_reference;
       so_far = so_far_more (g.D.Device.state c.args.dev.now).held {E = QueryFault} {done = tt} c.loop-row.invariant.so_far
@@ -40,7 +38,6 @@ loop-row-preserved g c =
           (subst (λ o. IfSome o (λ image. IsNext {X = DeviceRow} (Some c.in-Some.row) (rows_left image c.loop-row.devices) (rows_left image c.next.new.self))) c.loop-row.invariant.kept.held
           (rw c.in-Some.is at c.in-Ok.ensures.next)))
           (line_told {E = QueryFault} (g.D.Device.state c.args.dev.now).held (λ image. device_line c.in-Some.row c.first_tally-number.result.0) (device_line c.in-Some.row c.first_tally-number.result.0) {result = Ok tt} (each_told (g.D.Device.state c.args.dev.now).held (λ image. refl)) c.in_ok-add_parts-in-Some.ensures.prints);
-      room = omega arith;
       kept = only_reads_both c.loop-row.invariant.kept c.in-Ok.ensures.kept;
       dev_faults = c.in-Ok.ensures.faults ∙ c.loop-row.invariant.dev_faults;
       out_faults = c.in_ok-add_parts-in-Some.ensures.faults ∙ c.loop-row.invariant.out_faults;

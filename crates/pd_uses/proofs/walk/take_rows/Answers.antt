@@ -1,4 +1,4 @@
-use Rattle.std.proofs.Common.{Some, None, IfSome, ap, ◌∙◌, subst, arith}
+use Rattle.std.proofs.Common.{Some, None, IfSome, ap, ◌∙◌, subst}
 use Rattle.pd_image.proofs.ReadLemmas.{only_reads_both}
 use Rattle.pd_tree.specs.Next.{IsNext}
 use Rattle.pd_thin_meaning.specs.declared.devices.DeviceRow.{DeviceRow}
@@ -17,15 +17,12 @@ returns-in-None-clause-taken g c =
 
 pub loop-row-preserved : goal.loop-row-preserved
 loop-row-preserved g c =
-    let before = c.loop-row.invariant.room in
-    let room = c.in-Ok.ensures.room in
     record {
       takes = takes_row g.T.TakesUses.has_taken (g.D.Device.state c.args.dev.now).held c.in-Some.row _ _ (λ image. rows_left image c.next.new.self) c.loop-row.invariant.takes
           (subst (λ o. IfSome o (λ image. IsNext {X = DeviceRow} (Some c.in-Some.row) (rows_left image c.loop-row.devices) (rows_left image c.next.new.self))) c.loop-row.invariant.kept.held
           (rw c.in-Some.is at c.in-Ok.ensures.next))
-          c.in-Ok-begin.ensures
-          (rw (only_reads_both c.loop-row.invariant.kept c.in-Ok.ensures.kept).held at c.in_ok-take_row-in-Ok-begin.ensures.taken);
-      room = omega arith;
-      kept = only_reads_both (only_reads_both c.loop-row.invariant.kept c.in-Ok.ensures.kept) c.in_ok-take_row-in-Ok-begin.ensures.kept;
-      faults = c.in_ok-take_row-in-Ok-begin.ensures.faults ∙ (c.in-Ok.ensures.faults ∙ c.loop-row.invariant.faults);
+          c.in_ok-begin-in-Some.ensures
+          (rw (only_reads_both c.loop-row.invariant.kept c.in-Ok.ensures.kept).held at c.in_ok-take_row-in-Some.ensures.taken);
+      kept = only_reads_both (only_reads_both c.loop-row.invariant.kept c.in-Ok.ensures.kept) c.in_ok-take_row-in-Some.ensures.kept;
+      faults = c.in_ok-take_row-in-Some.ensures.faults ∙ (c.in-Ok.ensures.faults ∙ c.loop-row.invariant.faults);
     }
