@@ -14,7 +14,7 @@ use Rattle.pd_kinds.specs.Meaning.{cache_meaning}
 use Rattle.pd_kinds.specs.Stages.{HasCleanSuper, cache_checked, faults}
 use Rattle.pd_laws.proofs.CleanLemmas.{clean_super_where_none}
 use Rattle.pd_cache_meaning.specs.Given.{GivesCache}
-use Rattle.pd_cache_meaning.specs.Rows.{RootsBelow, rows_below}
+use Rattle.pd_cache_meaning.specs.Rows.{rows_below}
 use Rattle.pd_answers.specs.CachedView.{CachedBlock, blocks_each, dirty_places, hot_blocks, is_block_size_bad}
 use Rattle.pd_writeback.specs.declared.fault.WriteFault.{WriteFault}
 use Rattle.pd_writeback.specs.declared.fault.WriteFault.TheVariants.{Memory, Meta, Origin, Fast, BlockSize, NoRoom}
@@ -40,14 +40,14 @@ module _ (gives : (image : Image) → HasBytes image → faults Cache stages.Who
   found_size None sound = record { told = tt }
   found_size (Some image) sound = record { told = (size_of image s (fields_of image sound.1), refl) }
 
-  module _ (hot : List CachedBlock) (blocks : ℕ) where
-    hot_of : (image : Image) → HasBytes image → length image ≡ blocks → Sound image → (RootsBelow blocks s → hot ≡ hot_rows (is_clean s) (rows_below image s)) → hot ≡ hot_blocks (cache_meaning image)
-    hot_of image bytes number sound known = found_of image s hot blocks (fields_of image sound.1) (gives image bytes sound.0) number known
+  module _ (hot : List CachedBlock) where
+    hot_of : (image : Image) → HasBytes image → Sound image → hot ≡ hot_rows (is_clean s) (rows_below image s) → hot ≡ hot_blocks (cache_meaning image)
+    hot_of image bytes sound known = found_of image s hot (fields_of image sound.1) (gives image bytes sound.0) known
 
-    pub found_in : (held : Option Image) → IfSome held HasBytes → IfSome held (λ i. length i ≡ blocks) → IfSome held Sound
-        → IfSome held (λ image. RootsBelow blocks s → hot ≡ hot_rows (is_clean s) (rows_below image s)) → IsFound held s.block_size hot
-    found_in None bytes number sound known = record { told = tt }
-    found_in (Some image) bytes number sound known = record { told = (size_of image s (fields_of image sound.1), hot_of image bytes number sound known) }
+    pub found_in : (held : Option Image) → IfSome held HasBytes → IfSome held Sound
+        → IfSome held (λ image. hot ≡ hot_rows (is_clean s) (rows_below image s)) → IsFound held s.block_size hot
+    found_in None bytes sound known = record { told = tt }
+    found_in (Some image) bytes sound known = record { told = (size_of image s (fields_of image sound.1), hot_of image bytes sound known) }
 
     -- what a plan of it has
     pub record HasParts (places : List ℕ) (image : Image) : Type 0 where
@@ -60,22 +60,21 @@ module _ (gives : (image : Image) → HasBytes image → faults Cache stages.Who
     pub parts_in : ((image : Image) (b : ℕ) → faults Cache stages.Whole image ≡ []
         → list_any (λ place. nat_eq place b) (places_named (room_of (length image)) (tree_names image (dirty_root (cache_fields (block_at image 0)))))
         ≡ list_any (λ place. nat_eq place b) (dirty_places image))
-        → (places : List ℕ) (held : Option Image) → IfSome held HasBytes → IfSome held (λ i. length i ≡ blocks) → IfSome held Sound
-        → IfSome held (λ image. RootsBelow blocks s → hot ≡ hot_rows (is_clean s) (rows_below image s))
-        → IfSome held (λ image. RootsBelow blocks s → places ≡ places_named (room_of blocks) (tree_names image (dirty_root s)))
+        → (places : List ℕ) (blocks : ℕ) (held : Option Image) → IfSome held HasBytes → IfSome held (λ i. length i ≡ blocks) → IfSome held Sound
+        → IfSome held (λ image. hot ≡ hot_rows (is_clean s) (rows_below image s))
+        → IfSome held (λ image. places ≡ places_named (room_of blocks) (tree_names image (dirty_root s)))
         → IfSome held (HasParts places)
-    parts_in law places None bytes number sound known named = tt
-    parts_in law places (Some image) bytes number sound known named =
+    parts_in law places blocks None bytes number sound known named = tt
+    parts_in law places blocks (Some image) bytes number sound known named =
         let fields = fields_of image sound.1 in
-        let roots : RootsBelow blocks s = subst (λ (n : ℕ). RootsBelow n s) number (subst (λ (f : CacheFields). RootsBelow (length image) f) (sym fields) (gives image bytes sound.0).roots) in
         record {
           super_block = sound.1;
           version = ap (λ (f : CacheFields). f.version) fields;
           each = ap blocks_each (size_of image s fields);
-          hot_is = hot_of image bytes number sound known;
+          hot_is = hot_of image bytes sound known;
           named = λ b.
               ap (λ (ps : List ℕ). list_any (λ place. nat_eq place b) ps)
-              (named roots ∙ (ap (λ (n : ℕ). places_named (room_of n) (tree_names image (dirty_root s))) (sym number) ∙ ap (λ (f : CacheFields). places_named (room_of (length image)) (tree_names image (dirty_root f))) fields))
+              (named ∙ (ap (λ (n : ℕ). places_named (room_of n) (tree_names image (dirty_root s))) (sym number) ∙ ap (λ (f : CacheFields). places_named (room_of (length image)) (tree_names image (dirty_root f))) fields))
               ∙ law image b sound.0;
         }
 

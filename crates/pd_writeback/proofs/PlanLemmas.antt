@@ -16,7 +16,7 @@ use Rattle.pd_kinds.specs.Objects.{DeviceState}
 use Rattle.pd_kinds.proofs.CrashLemmas.{and_then, left_held, left_now, left_synced, weaken}
 use Rattle.pd_image.proofs.CrashLemmas.{at_some, synced_now, syncs}
 use Rattle.pd_cache_meaning.specs.Given.{GivesCache, entry_of}
-use Rattle.pd_cache_meaning.specs.Rows.{RootsBelow, rows_below}
+use Rattle.pd_cache_meaning.specs.Rows.{rows_below}
 use Rattle.pd_answers.specs.CachedView.{CachedBlock, blocks_each, copied, fast_place, hot_blocks, overlaid, settled, stands_for}
 use Rattle.pd_writeback.specs.declared.hot.HotBlock.{HotBlock}
 use Rattle.pd_writeback.specs.Hot.{cached_of_hot, cached_all, hot_rows, is_clean}
@@ -121,13 +121,12 @@ copied_synced k cs (Some fast) old mid new overlaid_is crash same = λ o is.
 abbrev pub hot_in : Option Image → List CachedBlock
 hot_in held = option_map_or (λ image. hot_blocks (cache_meaning image)) held []
 
-pub found_of : (image : Image) (s : CacheFields) (hot : List CachedBlock) (blocks : ℕ) → s ≡ cache_fields (block_at image 0) → GivesCache image → length image ≡ blocks
-    → (RootsBelow blocks s → hot ≡ hot_rows (is_clean s) (rows_below image s)) → hot ≡ hot_blocks (cache_meaning image)
+pub found_of : (image : Image) (s : CacheFields) (hot : List CachedBlock) → s ≡ cache_fields (block_at image 0) → GivesCache image
+    → hot ≡ hot_rows (is_clean s) (rows_below image s) → hot ≡ hot_blocks (cache_meaning image)
 unfolding cache_meaning
-found_of image s hot blocks of gives number known =
-    let roots : RootsBelow blocks s = subst (λ (n : ℕ). RootsBelow n s) number (subst (λ (f : CacheFields). RootsBelow (length image) f) (sym of) gives.roots) in
+found_of image s hot of gives known =
     let clean : (cache_meaning image).clean ≡ is_clean s = ap is_clean (sym of) in
-    known roots ∙ hot_of_meaning (cache_meaning image) (is_clean s) (rows_below image s) clean (gives.entries ∙ ap (λ (f : CacheFields). map entry_of (rows_below image f)) (sym of))
+    known ∙ hot_of_meaning (cache_meaning image) (is_clean s) (rows_below image s) clean (gives.entries ∙ ap (λ (f : CacheFields). map entry_of (rows_below image f)) (sym of))
 
 pub size_of : (image : Image) (s : CacheFields) → s ≡ cache_fields (block_at image 0) → s.block_size ≡ (cache_meaning image).block_size
 unfolding cache_meaning

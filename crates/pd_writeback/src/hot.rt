@@ -1,9 +1,9 @@
 //! The cached blocks that a writeback copies.
 
-ghost use Rattle.std.specs.Prelude.{◌≡◌, ◌≤◌, ◌++◌, List, OnOk, IfOk, IfSome};
+ghost use Rattle.std.specs.Prelude.{◌≡◌, ◌++◌, List, OnOk, IfOk, IfSome};
 ghost use Rattle.std.specs.List.Sorted.{IsPermutation};
 ghost use Rattle.pd_image.specs.Device.{IsAttached, OnlyReads};
-ghost use Rattle.pd_cache_meaning.specs.Rows.{rows_below, rows_left, rows_room, RootsBelow};
+ghost use Rattle.pd_cache_meaning.specs.Rows.{rows_below, rows_left};
 ghost use Rattle.pd_writeback.specs.Failing.{CountsMeta};
 ghost use Rattle.pd_writeback.specs.Hot.{cached_all, hot_one, hot_rows, is_clean};
 
@@ -30,7 +30,6 @@ pub(crate) fn find_hot<A: Device>(
     meta: &mut A,
 ) -> Result<Vec<HotBlock>, WriteFault>
     requires attached { IsAttached (A.state meta.old) }
-    requires within { RootsBelow (A.state meta.old).blocks s.now }
     ensures hot { IfOk result (λ hot. IfSome (A.state meta.old).held (λ image. cached_all hot.items ≡ hot_rows (is_clean s.now) (rows_below image s.now))) }
     ensures kept { OnlyReads (A.state meta.old) (A.state meta.new) }
     ensures faults { CountsMeta result (A.state meta.old).faults (A.state meta.new).faults }
@@ -47,7 +46,6 @@ fn gather<A: Device>(
     meta: &mut A,
 ) -> Result<Vec<HotBlock>, WriteFault>
     requires attached { IsAttached (A.state meta.old) }
-    requires within { rows_room maps.old ≤ (A.state meta.old).blocks }
     ensures hot { IfOk result (λ hot. IfSome (A.state meta.old).held (λ image. cached_all hot.items ≡ hot_rows clean (rows_left image maps.old))) }
     ensures kept { OnlyReads (A.state meta.old) (A.state meta.new) }
     ensures faults { CountsMeta result (A.state meta.old).faults (A.state meta.new).faults }

@@ -6,7 +6,7 @@ ghost use Rattle.pd_kinds.specs.Graph.{block_at};
 ghost use Rattle.pd_kinds.specs.Limits.{room_of};
 ghost use Rattle.pd_image.specs.Device.{IsAttached, OnlyReads};
 ghost use Rattle.pd_answers.specs.CachedView.{is_block_size_bad};
-ghost use Rattle.pd_cache_meaning.specs.Rows.{RootsBelow, has_hints, rows_below};
+ghost use Rattle.pd_cache_meaning.specs.Rows.{rows_below};
 ghost use Rattle.pd_writeback.specs.Failing.{CountsMeta};
 ghost use Rattle.pd_writeback.specs.Hot.{cached_all, hot_rows, is_clean};
 ghost use Rattle.pd_writeback.specs.Places.{ArePlaces, dirty_root, places_named, tree_names};
@@ -41,37 +41,22 @@ pub(crate) fn is_block_size_bad(block_size: u32) -> bool
 }
 
 /// The hot blocks of the cache with this superblock, by ascending block of the cache, and the blocks that say what is
-/// dirty. Where a root is outside of the device, there are none.
+/// dirty.
 pub(crate) fn find_dirty<A: Device>(
     alloc: Global,
     s: &CacheSuper,
     meta: &mut A,
 ) -> Result<(Vec<HotBlock>, Vec<u64>), WriteFault>
     requires { IsAttached (A.state meta.old) }
-    ensures hot { IfOk result (λ found. IfSome (A.state meta.old).held (λ image. RootsBelow (A.state meta.old).blocks s.now
-        → cached_all found.0.items ≡ hot_rows (is_clean s.now) (rows_below image s.now))) }
-    ensures named { IfOk result (λ found. IfSome (A.state meta.old).held (λ image. RootsBelow (A.state meta.old).blocks s.now
-        → found.1.items ≡ places_named (room_of (A.state meta.old).blocks) (tree_names image (dirty_root s.now)))) }
+    ensures hot { IfOk result (λ found. IfSome (A.state meta.old).held (λ image. cached_all found.0.items ≡ hot_rows (is_clean s.now) (rows_below image s.now))) }
+    ensures named { IfOk result (λ found. IfSome (A.state meta.old).held (λ image. found.1.items ≡ places_named (room_of (A.state meta.old).blocks) (tree_names image (dirty_root s.now)))) }
     ensures places { IfOk result (λ found. ArePlaces (A.state meta.old).blocks found.1.items) }
     ensures kept { OnlyReads (A.state meta.old) (A.state meta.new) }
     ensures faults { CountsMeta result (A.state meta.old).faults (A.state meta.new).faults }
 {
-    if !are_roots_below(s, meta.blocks()) {
-        return Ok((Vec::new(alloc), Vec::new(alloc)));
-    }
     let hot = find_hot(alloc, s, meta)?;
     let places = find_places(alloc, dirty_root(s), meta)?;
     Ok((hot, places))
-}
-
-/// Whether the roots of a cache that are read are in a device of so many blocks.
-fn are_roots_below(s: &CacheSuper, blocks: u64) -> bool
-    ensures { IsTrue result ↔ RootsBelow blocks s.now }
-{
-    let mappings = s.mapping_root < blocks;
-    let hints = (s.hint_size != 4) | (s.hint_root == 0) | (s.hint_root < blocks);
-    let dirty = (s.version != 2) | (s.dirty_root < blocks);
-    mappings & hints & dirty
 }
 
 /// The root of the tree whose entries name the blocks that say what is dirty.

@@ -1,10 +1,9 @@
 //! The blocks that say what is dirty in a cache.
 
-ghost use Rattle.std.specs.Prelude.{◌≡◌, ◌≤◌, ◌<◌, ◌+◌, ◌++◌, ◌∷◌, [], if◌then◌else◌, ℕ, false, List, IfOk, IfSome, OnOk, length, replicate, slice_index_or};
+ghost use Rattle.std.specs.Prelude.{◌≡◌, ◌≤◌, ◌++◌, ◌∷◌, [], if◌then◌else◌, ℕ, false, List, IfOk, IfSome, OnOk, length, replicate, slice_index_or};
 ghost use Rattle.pd_kinds.specs.Limits.{room_of};
 ghost use Rattle.pd_kinds.specs.Objects.{CountsFault};
 ghost use Rattle.pd_image.specs.Device.{IsAttached, OnlyReads};
-ghost use Rattle.pd_tree.specs.Cursor.{cursor_room};
 ghost use Rattle.pd_writeback.specs.Failing.{CountsMeta};
 ghost use Rattle.pd_writeback.specs.Places.{ArePlaces, mark, marks, names_left, places_named, seen_places, tree_names};
 
@@ -25,7 +24,6 @@ pub(crate) fn find_places<A: Device>(
     meta: &mut A,
 ) -> Result<Vec<u64>, WriteFault>
     requires attached { IsAttached (A.state meta.old) }
-    requires within { root < (A.state meta.old).blocks }
     ensures named { IfOk result (λ places. IfSome (A.state meta.old).held (λ image. places.items ≡ places_named (room_of (A.state meta.old).blocks) (tree_names image root))) }
     ensures places { IfOk result (λ places. ArePlaces (A.state meta.old).blocks places.items) }
     ensures kept { OnlyReads (A.state meta.old) (A.state meta.new) }
@@ -38,7 +36,6 @@ pub(crate) fn find_places<A: Device>(
 /// Of each block of the metadata, whether an entry of the tree with this root names it; block 0 is left out.
 fn see_named<A: Device>(alloc: Global, root: u64, meta: &mut A) -> Result<Vec<bool>, WriteFault>
     requires attached { IsAttached (A.state meta.old) }
-    requires within { root < (A.state meta.old).blocks }
     ensures named { IfOk result (λ seen. IfSome (A.state meta.old).held (λ image. seen.items ≡ marks (replicate (room_of (A.state meta.old).blocks) false) (tree_names image root))) }
     ensures number { IfOk result (λ seen. length seen.items ≤ (A.state meta.old).blocks) }
     ensures first { IfOk result (λ seen. slice_index_or seen.items 0 false ≡ false) }
@@ -60,7 +57,6 @@ fn room_for(alloc: Global, blocks: u64, root: u64) -> Result<(Vec<bool>, Cursor<
     ensures names { (image : List (List ℕ)) → IfOk result (λ room. names_left image room.1 ≡ tree_names image root) }
     ensures first { IfOk result (λ room. slice_index_or room.0.items 0 false ≡ false) }
     ensures number { IfOk result (λ room. length room.0.items ≡ blocks) }
-    ensures room { IfOk result (λ room. cursor_room room.1 ≡ root + 1) }
 {
     let mut seen = Vec::new(alloc);
     seen.resize(blocks as usize, false)?;
@@ -75,7 +71,6 @@ fn mark_named<A: Device>(
     meta: &mut A,
 ) -> Result<(), Failed>
     requires attached { IsAttached (A.state meta.old) }
-    requires within { cursor_room entries.old ≤ (A.state meta.old).blocks }
     ensures marked { OnOk result (IfSome (A.state meta.old).held (λ image. seen.new ≡ marks seen.old (names_left image entries.old))) }
     ensures first { slice_index_or seen.new 0 false ≡ slice_index_or seen.old 0 false }
     ensures kept { OnlyReads (A.state meta.old) (A.state meta.new) }

@@ -1,4 +1,4 @@
-use Rattle.std.proofs.Common.{List, ◌++◌, IfSome, Some, None, ap, ◌∙◌, subst, arith}
+use Rattle.std.proofs.Common.{List, ◌++◌, IfSome, Some, None, ap, ◌∙◌, subst}
 use Rattle.pd_image.proofs.ReadLemmas.{only_reads_both}
 use Rattle.pd_tree.specs.Next.{IsNext}
 use Rattle.pd_tree.proofs.NextLemmas.{if_both}
@@ -12,8 +12,6 @@ use Rattle.pd_writeback.proofs.hot.gather.Goals as goal
 pub loop-row-preserved : goal.loop-row-preserved
 loop-row-preserved g c =
     let before = c.loop-row.invariant in
-    let room = c.in-Ok.ensures.room in
-    let was = before.room in
     let taken = subst (λ o. IfSome o (λ image. IsNext {X = CacheRow} (Some c.in-Some.row) (rows_left image c.loop-row.maps) (rows_left image c.next.new.self))) before.kept.held
     (rw c.in-Some.is at c.in-Ok.ensures.next) in
     record {
@@ -22,7 +20,6 @@ loop-row-preserved g c =
           ap (λ (cs : List CachedBlock). cs ++ hot_rows c.args.clean (rows_left image c.next.new.self)) c.in_ok-add_if_hot-in-Some.ensures
           ∙ hot_next c.args.clean c.in-Some.row _ _ (rows_left image c.loop-row.maps) (rows_left image c.next.new.self) so_far next)
           before.hot taken;
-      room = omega arith;
       kept = only_reads_both before.kept c.in-Ok.ensures.kept;
       faults = c.in-Ok.ensures.faults ∙ before.faults;
     }

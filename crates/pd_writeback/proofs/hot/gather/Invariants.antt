@@ -1,6 +1,6 @@
-use Rattle.std.proofs.Common.{◌≡◌, ◌≤◌, ◌++◌, IfSome}
+use Rattle.std.proofs.Common.{◌≡◌, ◌++◌, IfSome}
 use Rattle.pd_image.specs.Device.{OnlyReads}
-use Rattle.pd_cache_meaning.specs.Rows.{rows_left, rows_number, rows_room}
+use Rattle.pd_cache_meaning.specs.Rows.{rows_left, rows_number}
 use Rattle.pd_writeback.specs.Hot.{cached_all, hot_rows}
 use Rattle.pd_writeback.proofs.hot.gather.Given as goal
 
@@ -8,7 +8,6 @@ use Rattle.pd_writeback.proofs.hot.gather.Given as goal
 abbrev pub invariant-loop-row : goal.invariant-loop-row
 invariant-loop-row g l = record {
   hot : IfSome (g.A.Device.state l.initial.meta).held (λ image. cached_all l.hot.items ++ hot_rows l.clean (rows_left image l.maps) ≡ hot_rows l.clean (rows_left image l.initial.maps));
-  room : rows_room l.maps ≤ rows_room l.initial.maps;
   kept : OnlyReads (g.A.Device.state l.initial.meta) (g.A.Device.state l.meta);
   faults : (g.A.Device.state l.meta).faults ≡ (g.A.Device.state l.initial.meta).faults;
 }

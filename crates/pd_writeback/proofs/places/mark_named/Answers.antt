@@ -1,4 +1,4 @@
-use Rattle.std.proofs.Common.{◌≡◌, ℕ, List, Bool, ◌∷◌, IfSome, None, ap, ◌∙◌, subst, arith}
+use Rattle.std.proofs.Common.{◌≡◌, ℕ, List, Bool, ◌∷◌, IfSome, None, ap, ◌∙◌, subst}
 use Rattle.pd_image.proofs.ReadLemmas.{only_reads_both}
 use Rattle.pd_value.specs.declared.thin.Root.{Root}
 use Rattle.pd_tree.specs.Cursor.{cursor_items}
@@ -22,7 +22,6 @@ loop-named-preserved g c =
           ∙ marks_next c.loop-named.seen c.in-Some.field-0-0 c.in-Some.named (cursor_items 8 root_of image c.loop-named.entries) (cursor_items 8 root_of image c.next.new.self) _ so_far next)
           before.marked taken;
       first = c.mark.ensures.first ∙ before.first;
-      room = let none = c.in_ok-named.ensures.room in let room = before.room in omega arith;
       kept = only_reads_both before.kept c.next.ensures.kept;
       faults = c.in_ok-named.ensures.faults ∙ before.faults;
     }

@@ -1,6 +1,14 @@
-use Rattle.pd_query.proofs.PutsLemmas.{each_told}
+use Rattle.std.proofs.Common.{◌∙◌, ap}
+use Rattle.pd_kinds.specs.CacheFormat.{CacheFields}
+use Rattle.pd_query.proofs.PutsLemmas.{each_told, one_told}
+use Rattle.pd_dumps.specs.CacheLines.{cache_dump_text}
 use Rattle.pd_dumps.proofs.CacheMeaningLemmas.{text_means}
 use Rattle.pd_dumps.proofs.cache.CacheDump.start.Goals as goal
+
+pub returns-clause-text : goal.returns-clause-text
+returns-clause-text g c =
+    one_told (g.D.Device.state c.args.dev.now).held
+    (λ image read some. c.in_ok-dump.ensures.text image ∙ ap (λ (fields : CacheFields). cache_dump_text image fields) (read some)) c.in-Ok.ensures.fields
 
 pub returns-clause-means : goal.returns-clause-means
 returns-clause-means g c =

@@ -32,7 +32,7 @@ returns-in_err-look_at_room-clause-plans g c =
     let p = err_from_is_err_and c.from_residual-in_err-look_at_room.result c.from_residual-in_err-look_at_room.ensures.1 in
     rw (p.1, p.2)
     (no_room old.held c.args.origin_blocks c.args.fast_blocks s.block_size hot c.in_err-look_at_room.field-0.0
-    (found_in c.rows_are_the_entries.ensures c.args.super_block.value.0 s of hot old.blocks old.held (g.met.A.Device.bytes c.args.meta.now) (g.met.A.Device.measured c.args.meta.now) c.requires.sound c.in_ok-hot.ensures.hot)
+    (found_in c.rows_are_the_entries.ensures c.args.super_block.value.0 s of hot old.held (g.met.A.Device.bytes c.args.meta.now) c.requires.sound c.in_ok-hot.ensures.hot)
     (sym c.is_block_size_bad.ensures ∙ c.if-is_block_size_bad.false) (rw c.as_slice.ensures.value at c.in_err-look_at_room.ensures))
 
 pub invariant_of-result : goal.invariant_of-result
@@ -56,13 +56,13 @@ returns-clause-plans g c =
       s.block_size,
       hot,
       record {
-        found = found_in c.rows_are_the_entries.ensures c.args.super_block.value.0 s of hot old.blocks old.held (g.met.A.Device.bytes c.args.meta.now) (g.met.A.Device.measured c.args.meta.now) c.requires.sound c.in_ok-hot.ensures.hot;
+        found = found_in c.rows_are_the_entries.ensures c.args.super_block.value.0 s of hot old.held (g.met.A.Device.bytes c.args.meta.now) c.requires.sound c.in_ok-hot.ensures.hot;
         whole = sym c.is_block_size_bad.ensures ∙ c.if-is_block_size_bad.false;
         room = rw c.as_slice.ensures.value at c.in_ok-look_at_room.ensures;
         each = refl;
         same = moved;
         of = IfSome_then old.held
-            (parts_in c.rows_are_the_entries.ensures c.args.super_block.value.0 s of hot old.blocks c.places_are_those_of_one_tree.ensures c.in_ok-hot.places.items old.held
+            (parts_in c.rows_are_the_entries.ensures c.args.super_block.value.0 s of hot c.places_are_those_of_one_tree.ensures c.in_ok-hot.places.items old.blocks old.held
             (g.met.A.Device.bytes c.args.meta.now) (g.met.A.Device.measured c.args.meta.now) c.requires.sound c.in_ok-hot.ensures.hot c.in_ok-hot.ensures.named)
             (λ image parts. record {
               super_block = parts.super_block;
