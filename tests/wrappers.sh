@@ -332,6 +332,23 @@ out 'fault meta 183 checksum' 'faults 1'
 try 1 thin_check --until walk damaged.img
 try 0 thin_check --until super damaged.img
 
+# little address space: the system may not start it, and no signal ends it
+# shellcheck disable=SC3045 # a shell without such limits is skipped
+if (ulimit -v 1048576) 2>/dev/null; then
+    for limit in 2800 3000 3200 3500 3800 4100 4400 4700 5000 6000; do
+        what="a check with $limit KiB of address space"
+        tries=$((tries + 1))
+        (ulimit -v $limit && exec pdata_tools thin_check thin-pool.img) >out 2>notes
+        got=$?
+        case $got in
+        0 | 7 | 127) ;;
+        *) bad "status $got" ;;
+        esac
+    done
+else
+    skip 'little address space, as the shell has no such limit'
+fi
+
 # the flag "needs check", which is cleared where nothing was found, or leaks alone that pass
 cp thin-pool.img flag.img
 poke flag.img 0 '\075\054\342\015\001'

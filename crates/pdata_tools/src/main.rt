@@ -7,6 +7,9 @@ ghost use Rattle.pd_answers.specs.Words.{asked};
 ghost use Rattle.pd_answers.specs.Terms.{is_possible};
 ghost use Rattle.pd_answers.specs.Promises.{terms_of};
 
+mod stack;
+
+use crate::stack::take_stack;
 use pd_files::{FileDevice, StdSink, StdSource};
 use pd_tools::run_tool;
 use std::io::ErrorKind;
@@ -15,11 +18,18 @@ use std::{env, io};
 
 /// Runs the tool that the words ask for. Its status is the exit code.
 fn main(rt: HostRuntime) -> ExitCode {
-    let status = match tool_words(&rt) {
+    let status = match begin(&rt) {
         Ok(words) => run(&rt, words.as_slice()),
-        Err(error) => wordless_status(error.kind()),
+        Err(error) => unready_status(error.kind()),
     };
     ExitCode::from(status)
+}
+
+/// Takes the words and the stack.
+fn begin(rt: &HostRuntime) -> io::Result<Vec<String>> {
+    let words = tool_words(rt)?;
+    take_stack(rt, words.len())?;
+    Ok(words)
 }
 
 /// The words without the first one, which is the program's own name.
@@ -44,9 +54,9 @@ fn run(rt: &HostRuntime, words: &[String]) -> u8
     )
 }
 
-/// The status where the words couldn't be taken: 7 for want of memory, and 2 for another cause, as a
+/// The status where the words or the stack couldn't be taken: 7 for want of memory, and 2 for another cause, as a
 /// word that isn't UTF-8.
-fn wordless_status(cause: ErrorKind) -> u8
+fn unready_status(cause: ErrorKind) -> u8
     ensures memory { cause ≡ OutOfMemory → result ≡ 7 }
     ensures other { cause ≢ OutOfMemory → result ≡ 2 }
 {
