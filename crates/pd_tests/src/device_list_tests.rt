@@ -1,6 +1,7 @@
 //! The list of devices.
 
-use crate::asked::{SHARED, TWICE, expect_lines};
+use crate::asked::expect_lines;
+use pd_samples::texts::{SHARED, TWICE};
 use std::test::Fail;
 
 /// The lists of the devices of pools.

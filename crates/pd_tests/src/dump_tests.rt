@@ -2,7 +2,7 @@
 
 ghost use Rattle.std.specs.Prelude.{◌<◌, ◌^◌};
 
-use crate::asked::{DEVICE, ONE, TWICE, expect_damaged, expect_put, expect_run};
+use crate::asked::{expect_damaged, expect_put, expect_run};
 use crate::reports::expect_told;
 use crate::stored_tests::pool_of_two_devices;
 use crate::whole_tests::{details_leaf, superblock};
@@ -10,6 +10,7 @@ use pd_kinds::Block;
 use pd_node::write_leaf;
 use pd_samples::pool::{bitmap, damaged, pool_of_one_mapping};
 use pd_samples::runs::{Failing, NOTHING_FAILS, restored};
+use pd_samples::texts::{DEVICE, ONE, TWICE};
 use pd_supers::write_thin_super;
 use pd_value::{BlockTime, Details, Root};
 use std::alloc::{AllocError, Global};

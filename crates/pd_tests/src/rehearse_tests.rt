@@ -1,12 +1,13 @@
 //! Rehearsals over devices in memory.
 
-use crate::asked::{Came, DEVICE, expect_came, expect_put};
+use crate::asked::{Came, expect_came, expect_put};
 use pd_crc::any_valid;
 use pd_image::{MemDevice, Pick};
 use pd_kinds::Block;
 use pd_samples::runs::{
     Failing, Held, NOTHING_FAILS, Ran, blocks_after_crash, blocks_of, restore, run, run_over,
 };
+use pd_samples::texts::DEVICE;
 use std::alloc::{AllocError, Global};
 use std::process::Abort;
 use std::test::Fail;

@@ -1,6 +1,7 @@
 //! The reverse map of regions.
 
-use crate::asked::{SHARED, TWICE, ask, expect_lines};
+use crate::asked::{ask, expect_lines};
+use pd_samples::texts::{SHARED, TWICE};
 use std::alloc::{AllocError, Global};
 use std::process::Abort;
 use std::test::Fail;

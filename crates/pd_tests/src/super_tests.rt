@@ -1,10 +1,11 @@
 //! Checks of the superblock alone, and the words of a check.
 
-use crate::asked::{Came, DEVICE, SINK, expect_came, expect_run};
+use crate::asked::{Came, expect_came, expect_run};
 use crate::reports::{WHOLE_CHECK, expect_report};
 use pd_kinds::{Block, Kind};
 use pd_samples::pool::{damaged, empty_super, resealed, zeros_behind};
 use pd_samples::runs::{Failing, NOTHING_FAILS, run};
+use pd_samples::texts::{DEVICE, SINK};
 use std::alloc::{AllocError, Global};
 use std::process::Abort;
 use std::test::Fail;

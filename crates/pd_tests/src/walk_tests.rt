@@ -1,6 +1,6 @@
 //! Checks up to the walk: the rules of each block by itself, and its roles.
 
-use crate::asked::{DEVICE, expect_run};
+use crate::asked::expect_run;
 use crate::reports::expect_report;
 use pd_kinds::{Block, Kind};
 use pd_samples::pool::{
@@ -9,6 +9,7 @@ use pd_samples::pool::{
     pool_with_held_copy, resealed, zeros_behind,
 };
 use pd_samples::runs::{Failing, NOTHING_FAILS};
+use pd_samples::texts::DEVICE;
 use pd_supers::write_thin_super;
 use std::alloc::{AllocError, Global};
 use std::process::Abort;

@@ -1,10 +1,10 @@
 //! Restores of texts that never end.
 
-use crate::asked::ONE;
 use crate::requests::{CACHE_TEXT, SHARED_LEAF, TARGET_TEXT};
 use pd_image::{Device, Failed, MemDevice, MemSink, Source};
 use pd_kinds::Block;
 use pd_samples::runs::{blocks_of, texts_of};
+use pd_samples::texts::ONE;
 use pd_tools::run_tool;
 use std::alloc::{AllocError, Global};
 use std::process::Abort;

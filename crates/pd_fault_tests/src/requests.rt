@@ -1,6 +1,5 @@
 //! Requests of all tools but the rehearsal, and the images that they are made over.
 
-use crate::asked::{ONE, TWICE};
 use Image::{
     Apart, Cache, DamagedPool, Data, DirtyCache, FlaggedPool, NoPool, Nothing, Ones, Pool, Target,
     Twice,
@@ -8,6 +7,7 @@ use Image::{
 use pd_kinds::Block;
 use pd_samples::pool::{damaged, pool_of_one_mapping};
 use pd_samples::runs::{Held, NOTHING_FAILS, blocks_of, run_over};
+use pd_samples::texts::{ONE, TWICE};
 use pd_supers::{read_thin_super, write_thin_super};
 use std::alloc::{AllocError, Global};
 use std::process::Abort;

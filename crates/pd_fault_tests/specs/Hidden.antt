@@ -2,7 +2,7 @@
 use Rattle.std.specs.Prelude.{length, None}
 use Rattle.pd_kinds.specs.Objects.{DeviceState}
 use Rattle.pd_image.specs.Device.{untold_history}
-use Rattle.pd_tests.specs.declared.hidden.Hidden.{Hidden}
+use Rattle.pd_fault_tests.specs.declared.hidden.Hidden.{Hidden}
 
 abbrev pub hidden_state : Hidden → DeviceState
 hidden_state device = record {

@@ -46,7 +46,7 @@ pub struct Hidden {
 
 impl Hidden {
     ghost use Rattle.std.specs.Prelude.{◌≡◌};
-    ghost use Rattle.pd_tests.specs.Hidden.{hidden_state};
+    ghost use Rattle.pd_fault_tests.specs.Hidden.{hidden_state};
 
     /// A device of these blocks, which shows something else from this call on.
     pub fn new(blocks: Vec<Block>, shows_from: u64, shown: Shown) -> Hidden
@@ -81,7 +81,7 @@ impl Hidden {
 
 impl Device for Hidden {
     ghost use Rattle.std.specs.Prelude.{refl};
-    ghost use Rattle.pd_tests.specs.Hidden.{hidden_state};
+    ghost use Rattle.pd_fault_tests.specs.Hidden.{hidden_state};
 
     ghost state = { hidden_state };
 

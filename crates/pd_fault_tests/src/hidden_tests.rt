@@ -1,6 +1,5 @@
 //! Runs of the tools over devices that tell nothing.
 
-use crate::asked::{ONE, SHARED};
 use crate::hidden::{Hidden, Shown};
 use crate::requests::Image::{FlaggedPool, Pool};
 use crate::requests::{
@@ -9,6 +8,7 @@ use crate::requests::{
 use pd_image::{MemSink, MemSource};
 use pd_kinds::Block;
 use pd_samples::runs::{Held, NOTHING_FAILS, blocks_of, run, run_over, texts_of};
+use pd_samples::texts::{ONE, SHARED};
 use pd_tools::run_tool;
 use std::alloc::{AllocError, Global};
 use std::process::Abort;

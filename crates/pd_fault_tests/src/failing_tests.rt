@@ -1,6 +1,5 @@
 //! Each call of each object of each request, failing in turn.
 
-use crate::asked::{DEVICE, SINK};
 use crate::requests::{Asked, AskedOfThree, OF_THREE, READINGS, WRITINGS, blocks};
 use pd_crc::any_valid;
 use pd_image::{MemDevice, Pick};
@@ -8,6 +7,7 @@ use pd_kinds::Block;
 use pd_samples::runs::{
     Failing, Held, NOTHING_FAILS, Ran, blocks_after_crash, blocks_of, run_over,
 };
+use pd_samples::texts::{DEVICE, SINK};
 use std::alloc::{AllocError, Global};
 use std::process::Abort;
 use std::test::Fail;
