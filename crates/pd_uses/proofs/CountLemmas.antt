@@ -25,7 +25,7 @@ number_more p xs x = ap length (filter-append p xs (x ∷ [])) ∙ (length-appen
     one_alone false = refl
 
 -- and in two lists
-number_of_both : {X : Type 0} → (p : X → Bool) (xs ys : List X) → length (filter p (xs ++ ys)) ≡ length (filter p xs) + length (filter p ys)
+pub number_of_both : {X : Type 0} → (p : X → Bool) (xs ys : List X) → length (filter p (xs ++ ys)) ≡ length (filter p xs) + length (filter p ys)
 number_of_both p xs ys = ap length (filter-append p xs ys) ∙ length-append (filter p xs) (filter p ys)
 
 -- what passes a test of the values of a function

@@ -5,3 +5,6 @@ pub mod TallyLemmas
 pub mod TallyingLemmas
 pub mod LineLemmas
 pub mod SoundLemmas
+pub mod MeetLemmas
+pub mod ListWalkLemmas
+pub mod ListRowLemmas

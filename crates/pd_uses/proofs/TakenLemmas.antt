@@ -77,7 +77,7 @@ unfolding uses_told
 told_use before one = filter_map-append (λ (other : Option DataUse). other) before (Some one ∷ [])
 
 -- those among what a walk tells
-some_told : (uses : List DataUse) → uses_told (map Some uses) ≡ uses
+pub some_told : (uses : List DataUse) → uses_told (map Some uses) ≡ uses
 unfolding uses_told
 some_told [] = refl
 some_told (one ∷ uses) = ap (λ (xs : List DataUse). one ∷ xs) (some_told uses)

@@ -294,27 +294,34 @@ stays uses users tallies place b shared still here was = record {
     no_more true = refl
     no_more false = refl
 
--- one more of a block that is used twice or more
-pub tallied_several : (uses : List (ℕ × ℕ)) (users : Counted) (tallies : List ℕ) (place b : ℕ) → b < users.size → count_of users b ≡ 2 ^ 32 - 1
-    → IsTallied uses users tallies → IsTallied (uses ++ ((place, b) ∷ [])) users tallies
-tallied_several uses users tallies place b inside many was =
-    let two = (was.user b inside).several many in
-    let more = times_same users.size uses place b in
-    stays uses users tallies place b
-    (alone_below users.size uses b (times uses b) inside refl ∙ ne_eqb (times uses b) 1 (λ one. omega (arith, one, two)))
-    (alone_below users.size (uses ++ ((place, b) ∷ [])) b (times uses b + 1) inside more ∙ ne_eqb (times uses b + 1) 1 (λ one. omega (arith, one, two)))
-    (λ within. record {
-      several = λ same. omega (arith, more, two);
-      total = λ less. absurd (omega (arith, less, many));
-      one = λ less p. absurd (omega (arith, less, many));
-    })
-    was
-
 -- a use of a block that the pool hasn't
 pub tallied_past : (uses : List (ℕ × ℕ)) (users : Counted) (tallies : List ℕ) (place b : ℕ) → users.size ≤ b
     → IsTallied uses users tallies → IsTallied (uses ++ ((place, b) ∷ [])) users tallies
 tallied_past uses users tallies place b past was =
     stays uses users tallies place b (alone_past users.size uses b past) (alone_past users.size (uses ++ ((place, b) ∷ [])) b past) (λ within. absurd (omega (arith, within, past))) was
+
+-- one more of a block that is used twice or more
+pub tallied_often : (uses : List (ℕ × ℕ)) (users : Counted) (tallies : List ℕ) (place b : ℕ) → 2 ≤ times uses b
+    → IsTallied uses users tallies → IsTallied (uses ++ ((place, b) ∷ [])) users tallies
+tallied_often uses users tallies place b two was = elim (cases_lt b users.size) [
+  | inr past ↦ tallied_past uses users tallies place b past was
+  | inl inside ↦
+      let more = times_same users.size uses place b in
+      stays uses users tallies place b
+      (alone_below users.size uses b (times uses b) inside refl ∙ ne_eqb (times uses b) 1 (λ one. omega (arith, one, two)))
+      (alone_below users.size (uses ++ ((place, b) ∷ [])) b (times uses b + 1) inside more ∙ ne_eqb (times uses b + 1) 1 (λ one. omega (arith, one, two)))
+      (λ within. record {
+        several = λ same. omega (arith, more, two);
+        total = λ less. let total = (was.user b within).total less in absurd (omega (arith, total, two));
+        one = λ less p. let total = (was.user b within).total less in absurd (omega (arith, total, two));
+      })
+      was
+]
+
+-- of which that is noted
+pub tallied_several : (uses : List (ℕ × ℕ)) (users : Counted) (tallies : List ℕ) (place b : ℕ) → b < users.size → count_of users b ≡ 2 ^ 32 - 1
+    → IsTallied uses users tallies → IsTallied (uses ++ ((place, b) ∷ [])) users tallies
+tallied_several uses users tallies place b inside many was = tallied_often uses users tallies place b ((was.user b inside).several many) was
 
 -- a device more has no uses yet
 pub tallied_begun : (uses : List (ℕ × ℕ)) (users : Counted) (tallies : List ℕ) → IsTallied uses users tallies → IsTallied uses users (tallies ++ (0 ∷ []))

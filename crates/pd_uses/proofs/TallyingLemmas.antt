@@ -1,18 +1,21 @@
 -- What a use more does to tallies, and what a device more does.
-use Rattle.std.proofs.Common.{◌≡◌, ℕ, suc, ◌-◌, ◌^◌, ◌<◌, ◌≤◌, List, [], ◌∷◌, ◌++◌, length, map, Option, None, Some, IfSome, Result, OnOk, Ok, Err, refl, sym, ap, ◌∙◌, subst, arith, ap₂, length-append, length-set}
+use Rattle.std.proofs.Common.{◌≡◌, ℕ, suc, ◌-◌, ◌^◌, ◌<◌, ◌≤◌, nat_eq, List, [], ◌∷◌, ◌++◌, length, map, Option, None, Some, Result, OnOk, Ok, Err, refl, sym, ap, ◌∙◌, subst, arith, ap₂, inl, inr, length-append, length-set}
+use Rattle.std.specs.List.{AllByRecursion}
+use Rattle.std.proofs.lemmas.Bool.{cases_Bool}
 use Rattle.std.proofs.lemmas.List.{append-nil}
 use Rattle.pd_count.specs.Counted.{Counted, count_of, PutsNumber}
 use Rattle.pd_kinds.specs.declared.thin_super.ThinSuper.{ThinSuper}
 use Rattle.pd_thin_meaning.specs.declared.devices.DeviceRow.{DeviceRow}
 use Rattle.pd_thin_meaning.specs.Given.{super_rows}
-use Rattle.pd_query.proofs.PutsLemmas.{one_told}
+use Rattle.pd_shared_leaves.specs.Leaves.{IsProperTree}
 use Rattle.pd_uses.specs.declared.data_use.DataUse.{DataUse}
 use Rattle.pd_uses.specs.declared.tallies.Tallies.{Tallies}
-use Rattle.pd_uses.specs.Taken.{TakesUses}
-use Rattle.pd_uses.specs.Tallied.{IsTallied, begun, is_alone, lowered_at, number_at, placed, placed_told, raised_at, rows_placed}
+use Rattle.pd_uses.specs.ListWalk.{TalliesRows}
+use Rattle.pd_uses.specs.Tallied.{IsTallied, begun, is_alone, lowered_at, number_at, placed, placed_told, raised_at, rows_placed, times}
 use Rattle.pd_uses.specs.Tallying.{AreExclusive, HasTallied}
-use Rattle.pd_uses.specs.Uses.{row_uses, rows_told, super_told}
-use Rattle.pd_uses.proofs.TallyLemmas.{tallied_begun, tallied_first, tallied_past, tallied_second, tallied_several}
+use Rattle.pd_uses.specs.UseCounts.{number_of_uses}
+use Rattle.pd_uses.specs.Uses.{row_uses, rows_told, super_told, uses_told}
+use Rattle.pd_uses.proofs.TallyLemmas.{tallied_begun, tallied_first, tallied_often, tallied_past, tallied_second, tallied_several}
 
 -- the place of the last device
 abbrev last : Tallies → ℕ
@@ -60,6 +63,25 @@ one_more one old new size devices more start before had = record {
   tallied = rw (placed_append 0 before (Some one ∷ []), ← had.devices) (more (placed_told 0 before) had.tallied);
 }
 
+-- how often a block is used among what is told
+times_told : (n : ℕ) (told : List (Option DataUse)) (b : ℕ) → times (placed_told n told) b ≡ number_of_uses (uses_told told) b
+unfolding uses_told
+times_told n [] b = refl
+times_told n (None ∷ told) b = times_told (suc n) told b
+times_told n (Some one ∷ told) b = elim (cases_Bool (nat_eq one.block b)) [
+  | inl same ↦ rw same (ap suc (times_told n told b))
+  | inr other ↦ rw other (times_told n told b)
+]
+
+-- a use of a block that was told twice before
+pub takes_often : (one : DataUse) (t start : Tallies) (before : List (Option DataUse)) → 2 ≤ number_of_uses (uses_told before) one.block
+    → HasTallied start before t → HasTallied start (before ++ (Some one ∷ [])) t
+takes_often one t start before often had = record {
+  size = had.size;
+  devices = had.devices ∙ sym (begun_append 0 before (Some one ∷ []));
+  tallied = rw (placed_append 0 before (Some one ∷ []), ← had.devices) (tallied_often (placed_told 0 before) t.users t.exclusive.items (last t) one.block (rw (times_told 0 before one.block) often) had.tallied);
+}
+
 pub takes_past : (one : DataUse) (old : Tallies) → old.users.size ≤ one.block → (start : Tallies) (before : List (Option DataUse)) → HasTallied start before old → HasTallied start (before ++ (Some one ∷ [])) old
 takes_past one old past = one_more one old old refl refl (λ uses. tallied_past uses old.users old.exclusive.items (last old) one.block past)
 
@@ -87,11 +109,9 @@ takes_second one old new (Ok t) inside n is some less user tally =
     (λ uses was. rw tally (tallied_second uses old.users new.users old.exclusive.items (last old) one.block n inside is some less user was))
 
 -- the tallies of the devices of a pool, from no uses on
-pub are_exclusive : (held : Option (List (List ℕ))) (s : ThinSuper) (old new : Tallies) → old.users.size ≡ s.data_map.blocks → old.exclusive.items ≡ [] → IsTallied [] old.users old.exclusive.items
-    → TakesUses HasTallied held (λ image. super_told image s) old new → IfSome held (λ image. AreExclusive image s new.exclusive.items)
-are_exclusive held s old new size none begin took =
-    let done = took.taken old [] (record { size = refl; devices = ap length none; tallied = begin }) in
-    one_told held (λ image is place.
-    let uses : placed_told 0 took.uses ≡ rows_placed image 0 (super_rows image s) = ap (placed_told 0) is ∙ placed_rows image 0 (super_rows image s) in
-    done.tallied.tally place ∙ ap₂ (λ (n : ℕ) (xs : List (ℕ × ℕ)). number_at place (is_alone n xs) xs) (done.size ∙ size) uses)
-    took.told
+pub are_exclusive : (image : List (List ℕ)) (s : ThinSuper) (n : ℕ) (old new : Tallies) → old.users.size ≡ s.data_map.blocks → old.exclusive.items ≡ [] → IsTallied [] old.users old.exclusive.items
+    → AllByRecursion (λ (row : DeviceRow). IsProperTree image n row.root) (super_rows image s) → TalliesRows image (super_rows image s) old new → AreExclusive image s new.exclusive.items
+are_exclusive image s n old new size none begin proper tallies = λ place.
+    let done = tallies n proper old (record { size = refl; devices = ap length none; tallied = begin }) in
+    let uses : placed_told 0 (super_told image s) ≡ rows_placed image 0 (super_rows image s) = placed_rows image 0 (super_rows image s) in
+    done.tallied.tally place ∙ ap₂ (λ (n : ℕ) (xs : List (ℕ × ℕ)). number_at place (is_alone n xs) xs) (done.size ∙ size) uses

@@ -4,4 +4,6 @@ pub mod Ordered
 pub mod UseCounts
 pub mod Tallied
 pub mod Tallying
+pub mod Meets
+pub mod ListWalk
 pub mod UseLines

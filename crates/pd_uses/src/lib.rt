@@ -9,6 +9,8 @@ mod counting;
 mod data_use;
 mod device_list;
 mod lines;
+mod list_walk;
+mod meets;
 mod region;
 mod reverse_map;
 mod tallies;

@@ -1,10 +1,11 @@
 //! How many data blocks each device of a pool alone uses, tallied as the uses are gone through.
 
-ghost use Rattle.std.specs.Prelude.{◌≡◌, ◌+◌, ◌-◌, ◌^◌, ◌<◌, [], min, length, slice_index, slice_set, IfOk, OnOk};
+ghost use Rattle.std.specs.Prelude.{◌≡◌, ◌+◌, ◌-◌, ◌^◌, ◌<◌, [], ◌∷◌, ◌++◌, None, Some, List, Option, min, length, slice_index, slice_set, IfOk, OnOk};
 ghost use Rattle.pd_count.specs.Counted.{PutsNumber};
+ghost use Rattle.pd_uses.specs.declared.data_use.DataUse.{DataUse as OneUse};
 ghost use Rattle.pd_uses.specs.Tallied.{IsTallied, lowered_at, raised_at};
 
-use crate::data_use::{DataUse, TakesUses};
+use crate::data_use::DataUse;
 use crate::users::Users;
 use std::alloc::{AllocError, Global};
 
@@ -24,6 +25,9 @@ pub(crate) struct Tallies {
 }
 
 impl Tallies {
+    ghost use Rattle.pd_uses.specs.declared.tallies.Tallies.{Tallies};
+    ghost use Rattle.pd_uses.specs.Tallying.{HasTallied};
+
     /// No uses of so many data blocks, and no devices.
     pub(crate) fn new(alloc: Global, blocks: u64) -> Result<Tallies, AllocError>
         ensures size { IfOk result (λ tallies. tallies.users.size ≡ blocks) }
@@ -75,21 +79,19 @@ impl Tallies {
         }
         Ok(())
     }
-}
-
-impl TakesUses for Tallies {
-    ghost use Rattle.pd_uses.specs.Tallying.{HasTallied};
-
-    ghost has_taken = { λ start told now. HasTallied start told now };
 
     /// Begins a device behind the others.
-    fn begin(&mut self) -> Result<(), AllocError> {
+    pub(crate) fn begin(&mut self) -> Result<(), AllocError>
+        ensures { OnOk result ((start : Tallies) (before : List (Option OneUse)) → HasTallied start before self.old → HasTallied start (before ++ (None ∷ [])) self.new) }
+    {
         self.exclusive.push(0)?;
         Ok(())
     }
 
     /// Tallies the use, by the last device, if the pool has the block.
-    fn take(&mut self, one: DataUse) -> Result<(), AllocError> {
+    pub(crate) fn take(&mut self, one: DataUse) -> Result<(), AllocError>
+        ensures { OnOk result ((start : Tallies) (before : List (Option OneUse)) → HasTallied start before self.old → HasTallied start (before ++ (Some one ∷ [])) self.new) }
+    {
         if one.block >= self.users.size() {
             return Ok(());
         }

@@ -1,7 +1,17 @@
+use Rattle.pd_kinds.specs.Graph.{block_at}
+use Rattle.pd_kinds.specs.ThinSuper.{thin_fields}
+use Rattle.pd_query.proofs.PutsLemmas.{one_told}
+use Rattle.pd_shared_leaves.specs.Given.{pool_roots}
+use Rattle.pd_uses.proofs.ListRowLemmas.{rows_proper}
 use Rattle.pd_uses.proofs.TallyingLemmas.{are_exclusive}
 use Rattle.pd_uses.proofs.counting.exclusive_blocks.Goals as goal
 
 pub returns-clause-exclusive : goal.returns-clause-exclusive
 returns-clause-exclusive g c =
     rw c.into_exclusive.ensures
-    (are_exclusive (g.D.Device.state c.args.dev.now).held c.args.s.now c.in-Ok.tallies c.take_pool.new.taker c.in-Ok.ensures.size c.in-Ok.ensures.devices c.in-Ok.ensures.tallied c.in_ok-take_pool.ensures.taken)
+    (one_told (g.D.Device.state c.args.dev.now).held
+    (λ image tallies none own.
+    let blocks = (thin_fields (block_at image 0)).meta_map.blocks in
+    are_exclusive image c.args.s.now blocks c.in-Ok.tallies c.tally_pool.new.tallies c.in-Ok.ensures.size c.in-Ok.ensures.devices c.in-Ok.ensures.tallied
+    (rows_proper image c.args.s.now blocks (pool_roots image) own (c.pieces_are_those_of_the_shape.ensures image none).roots (c.leaves_are_below_roots.ensures.trees image none)) tallies)
+    c.in_ok-tally_pool.ensures.walks)

@@ -16,5 +16,5 @@ pub returns-clause-lines : goal.returns-clause-lines
 returns-clause-lines g c =
     puts_as
     (one_told (g.D.Device.state c.args.dev.now).held
-    (λ image right text is own none. is ∙ list_is image c.args.s.now c.in_ok-exclusive.exclusive.items own right (c.rows_are_the_devices.ensures image none)) c.in_ok-exclusive.ensures.exclusive)
+    (λ image right text is own none. is ∙ list_is image c.args.s.now c.in_ok-exclusive.exclusive.items own (right none own) (c.rows_are_the_devices.ensures image none)) c.in_ok-exclusive.ensures.exclusive)
     (rw (c.in_ok-exclusive.ensures.kept.held, c.deref.ensures.value) at c.put_devices.ensures.text)

@@ -1,6 +1,6 @@
 use Rattle.std.proofs.Common.{◌<◌, ◌^◌, sym, arith}
 use Rattle.pd_uses.proofs.TallyingLemmas.{takes_first, takes_past, takes_second, takes_several}
-use Rattle.pd_uses.proofs.tallies.TalliesTakesUses.take.Goals as goal
+use Rattle.pd_uses.proofs.tallies.Tallies.take.Goals as goal
 
 pub returns-then-one-size : goal.returns-then-one-size
 returns-then-one-size c = takes_past c.args.one c.args.self.now (omega (arith, c.if-one-size.true, c.size.ensures))
