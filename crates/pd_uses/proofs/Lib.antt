@@ -8,3 +8,5 @@ pub mod SoundLemmas
 pub mod MeetLemmas
 pub mod ListWalkLemmas
 pub mod ListRowLemmas
+pub mod HitLemmas
+pub mod FoundLemmas

@@ -1,13 +1,15 @@
 -- Lines that are gathered, one after another.
-use Rattle.std.proofs.Common.{◌≡◌, ℕ, ◌+◌, ◌<◌, List, [], ◌∷◌, ◌++◌, length, get_or, take, drop, Option, IfSome, Result, refl, sym, ap, ◌∙◌, append_assoc}
+use Rattle.std.proofs.Common.{◌≡◌, ℕ, ◌+◌, ◌<◌, ◌≤◌, List, [], ◌∷◌, ◌++◌, length, get_or, take, drop, Option, IfSome, Result, refl, sym, ap, ◌∙◌, append_assoc}
 use Rattle.std.proofs.lemmas.List.{append-nil, take-append-drop, take_more}
 use Rattle.std.proofs.lemmas.List.Concat.{flat_map-append}
 use Rattle.pd_thin_meaning.specs.declared.devices.DeviceRow.{DeviceRow}
 use Rattle.pd_lines.specs.Printing.{Begun, Printed, Printing, Prints}
-use Rattle.pd_lines.proofs.Printing.{begun_after, begun_first}
+use Rattle.pd_lines.proofs.Printing.{begun_after, begun_first, printed_both, printed_none, prints_then}
 use Rattle.pd_query.specs.Puts.{PrintsSome}
 use Rattle.pd_uses.specs.declared.data_use.DataUse.{DataUse}
+use Rattle.pd_uses.specs.Ordered.{ordered_uses}
 use Rattle.pd_uses.specs.UseLines.{device_line, tallied_rows, use_line, uses_text}
+use Rattle.pd_uses.proofs.OrderLemmas.{cut_uses}
 
 -- the lines of uses up to a place, and of one more
 pub text_so_far : (uses : List DataUse) (i : ℕ) (d : DataUse) → i < length uses → uses_text (take (i + 1) uses) ≡ uses_text (take i uses) ++ use_line (get_or uses i d)
@@ -40,3 +42,31 @@ four_parts a b c d e f g h first second third fourth fifth = rw (fifth, fourth, 
 -- and the rest behind them
 pub parts_rest : (a b c d e f g h rest : List ℕ) → (a ++ (b ++ (c ++ (d ++ (e ++ (f ++ (g ++ h))))))) ++ rest ≡ a ++ (b ++ (c ++ (d ++ (e ++ (f ++ (g ++ (h ++ rest)))))))
 parts_rest a b c d e f g h rest = simp append_assoc
+
+-- so far some lines were printed, which with the rest are the whole
+pub record LinesSoFar (whole rest : List ℕ) (old new : Printing) : Type 0 where
+  pub text : List ℕ
+  pub cut : whole ≡ text ++ rest
+  pub printed : Printed text old new
+
+pub lines_none : (whole : List ℕ) (now : Printing) → LinesSoFar whole whole now now
+lines_none whole now = record { text = []; cut = refl; printed = printed_none now }
+
+pub lines_more : (part later : List ℕ) {whole rest : List ℕ} {old mid new : Printing} → LinesSoFar whole rest old mid → rest ≡ part ++ later → Printed part mid new → LinesSoFar whole later old new
+lines_more part later so_far is printed = record {
+  text = so_far.text ++ part;
+  cut = so_far.cut ∙ (ap (λ (xs : List ℕ). so_far.text ++ xs) is ∙ sym (append_assoc so_far.text part later));
+  printed = printed_both so_far.printed printed;
+}
+
+-- the rest was printed, or a front of it
+pub lines_end : {E : Type 0} (result : Result (Unit {0}) E) {whole rest : List ℕ} {old mid : Printing} (new : Printing) → LinesSoFar whole rest old mid → Prints rest result mid new → Prints whole result old new
+lines_end result {rest = rest} new so_far prints = rw so_far.cut (prints_then so_far.text rest new result so_far.printed prints)
+
+-- or a front of a part of it
+pub lines_lost : (part later : List ℕ) {whole rest : List ℕ} {old mid new : Printing} → LinesSoFar whole rest old mid → rest ≡ part ++ later → Begun part mid new → Begun whole old new
+lines_lost part later so_far is begun = rw (so_far.cut, is) (begun_after so_far.printed (begun_first later begun))
+
+-- the lines of a region's uses, in two parts
+pub text_parts : (first cut end : ℕ) → first ≤ cut → cut ≤ end → (uses : List DataUse) → uses_text (ordered_uses first end uses) ≡ uses_text (ordered_uses first cut uses) ++ uses_text (ordered_uses cut end uses)
+text_parts first cut end least most uses = ap uses_text (cut_uses first cut end least most uses) ∙ flat_map-append use_line (ordered_uses first cut uses) (ordered_uses cut end uses)

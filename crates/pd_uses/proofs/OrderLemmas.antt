@@ -1,14 +1,16 @@
 -- Uses that were sorted by their blocks, where those of one block stayed in their order.
-use Rattle.std.proofs.Common.{◌≡◌, ℕ, zero, suc, ◌+◌, ◌-◌, ◌<◌, ◌≤◌, Bool, true, not, ◌&&◌, cond, nat_eq, nat_lt, Bor, List, [], ◌∷◌, ◌++◌, filter, get_or, refl, sym, ap, ◌∙◌, arith, inl, inr, eq-eqb, subst}
+use Rattle.std.proofs.Common.{◌≡◌, ℕ, zero, suc, ◌+◌, ◌-◌, ◌<◌, ◌≤◌, max, Bool, true, not, ◌&&◌, cond, nat_eq, nat_lt, Bor, List, [], ◌∷◌, ◌++◌, filter, get_or, refl, sym, ap, ◌∙◌, arith, inl, inr, eq-eqb, subst}
 use Rattle.std.specs.Fn.{Called}
 use Rattle.std.specs.List.{All, AllByRecursion, flat_map, range_with_len}
 use Rattle.std.specs.List.Sorted.{IsNonDecreasingBy, IsPermutation, IsSortedByKeyClosure, IsStableByKey, IsStableByKeyClosure, ties}
 use Rattle.std.specs.Ordering.{is_lt, nat_cmp}
 use Rattle.std.proofs.lemmas.Bool.{and_parts, cases_Bool, le-ltb, lt-ltb, ltb-false, ltb-true, ne_eqb, not-true, true≢false}
 use Rattle.std.proofs.lemmas.Fn.{always_returns_same}
+use Rattle.std.proofs.lemmas.List.Concat.{flat_map-append}
 use Rattle.std.proofs.lemmas.List.Elements.{filter_passes, recursion_from_All}
 use Rattle.std.proofs.lemmas.List.Sorted.{All-permutation, IsNonDecreasingBy-from_sort_by_key}
 use denote.Param.Members.{Mut}
+use Rattle.pd_laid.proofs.Rows.{range_on}
 use Rattle.pd_uses.specs.declared.data_use.DataUse.{DataUse}
 use Rattle.pd_uses.specs.Ordered.{is_within, ordered_uses, uses_of_block}
 
@@ -144,7 +146,7 @@ module _ (first end : ℕ) where
   blocks_kept from zero uses least most = refl
   blocks_kept from (suc n) uses least most = rw (block_kept from uses least (omega arith), blocks_kept (from + 1) n uses (omega arith) (omega arith)) refl
 
-  region_kept : (uses : List DataUse) → flat_map (uses_of_block (filter (is_within first end) uses)) (range_with_len first (end - first)) ≡ ordered_uses first end uses
+  pub region_kept : (uses : List DataUse) → flat_map (uses_of_block (filter (is_within first end) uses)) (range_with_len first (end - first)) ≡ ordered_uses first end uses
   region_kept uses = blocks_kept first (end - first) uses (omega arith) (omega arith)
 
   -- so they are the region's uses, in their order, once they are sorted
@@ -154,3 +156,17 @@ module _ (first end : ℕ) where
   region_sorted uses kept new is sorted =
       sorted first (end - first) (subst (All (λ (one : DataUse). (first ≤ one.block) × (one.block < first + (end - first)))) (sym is) (each_within first end uses))
       ∙ (ap (λ (xs : List DataUse). flat_map (uses_of_block xs) (range_with_len first (end - first))) is ∙ region_kept uses)
+
+-- the uses of a region are those of its first part, and then of the others
+pub cut_uses : (first cut end : ℕ) → first ≤ cut → cut ≤ end → (uses : List DataUse) → ordered_uses first end uses ≡ ordered_uses first cut uses ++ ordered_uses cut end uses
+cut_uses first cut end least most uses =
+    let n : end - first ≡ (cut - first) + (end - cut) = omega arith in
+    let here : first + (cut - first) ≡ cut = omega arith in
+    ap (λ (blocks : List ℕ). flat_map (uses_of_block uses) blocks) (ap (range_with_len first) n ∙ (range_on first (cut - first) (end - cut) ∙ ap (λ (c : ℕ). range_with_len first (cut - first) ++ range_with_len c (end - cut)) here))
+    ∙ flat_map-append (uses_of_block uses) (range_with_len first (cut - first)) (range_with_len cut (end - cut))
+
+-- an end before the first block is as good as the first block
+pub same_end : (first end : ℕ) (uses : List DataUse) → ordered_uses first (max end first) uses ≡ ordered_uses first end uses
+same_end first end uses =
+    let n : max end first - first ≡ end - first = omega arith in
+    ap (λ (k : ℕ). flat_map (uses_of_block uses) (range_with_len first k)) n

@@ -7,3 +7,6 @@ pub mod Tallying
 pub mod Meets
 pub mod ListWalk
 pub mod UseLines
+pub mod Hits
+pub mod FoundUses
+pub mod Descent

@@ -7,7 +7,10 @@
 
 mod counting;
 mod data_use;
+mod descent;
 mod device_list;
+mod found;
+mod hits;
 mod lines;
 mod list_walk;
 mod meets;

@@ -1,6 +1,6 @@
 //! The reverse map of a pool: which virtual blocks use the data blocks of a region.
 
-ghost use Rattle.std.specs.Prelude.{◌≡◌, OnOk};
+ghost use Rattle.std.specs.Prelude.{◌≡◌, ◌≤◌, OnOk};
 ghost use Rattle.pd_kinds.specs.Objects.{Appends, AppendsFront};
 ghost use Rattle.pd_image.specs.Device.{IsAttached, OnlyReads};
 ghost use Rattle.pd_image.specs.Sink.{KeepsSink};
@@ -8,9 +8,14 @@ ghost use Rattle.pd_lines.specs.Printer.{printing};
 ghost use Rattle.pd_lines.specs.Printing.{Prints};
 ghost use Rattle.pd_answers.specs.QueryLines.{rmap_lines};
 ghost use Rattle.pd_query.specs.Failing.{QueryEnds, SinkFails};
-ghost use Rattle.pd_uses.specs.UseLines.{PutsLines, use_line, uses_text};
+ghost use Rattle.pd_uses.specs.FoundUses.{found_uses};
+ghost use Rattle.pd_uses.specs.Ordered.{ordered_uses};
+ghost use Rattle.pd_uses.specs.UseLines.{PutFails, PutsLines, use_line, uses_text};
 
 use crate::data_use::DataUse;
+use crate::descent::find_region;
+use crate::found::Found;
+use crate::hits::Region;
 use crate::lines::add_labeled;
 use crate::region::region_uses;
 use crate::walk::super_to_ask;
@@ -22,11 +27,13 @@ use pd_thin_meaning::rows_are_the_devices;
 use std::alloc::Global;
 
 /// Puts a line for each mapping to a data block from `first` on and below `end`, of the pool with this superblock:
-/// ordered by data block, then by the number of the thin device, then by virtual block. It holds the mappings to those
-/// blocks alone, in 24 bytes each and the buffer of their sort.
+/// ordered by data block, then by the number of the thin device, then by virtual block. Each leaf of mappings is read once,
+/// however many devices share it. It holds 8 bytes a metadata block, 16 for each mapping of a leaf to those blocks, 16 for
+/// each time that a device has such a leaf, and the lines of some 2^18 mappings at once, in 24 bytes each and the buffer of
+/// their sort.
 ///
 /// Fails with `Device` where a read failed, with `Memory` where memory wasn't found, and with `Sink` where `out` failed;
-/// then a front of the lines was put. Nothing is put before all mappings were read.
+/// then a front of the lines was put. Nothing is put before all leaves were read.
 pub fn rmap<D: Device, K: Sink>(
     alloc: Global,
     dev: &mut D,
@@ -43,21 +50,78 @@ pub fn rmap<D: Device, K: Sink>(
     ensures faults { QueryEnds result (D.state dev.old).faults (D.state dev.new).faults (K.state out.old).faults (K.state out.new).faults }
 {
     rows_are_the_devices();
-    let uses = region_uses(alloc, dev, s, first, end)?;
-    put_uses(uses.as_slice(), out)
+    let region = Region { first, end };
+    let found = find_region(alloc, dev, s, region)?;
+    put_region(alloc, &found, region, out)
 }
 
-/// Puts the lines of uses. It takes no memory.
-fn put_uses<K: Sink>(uses: &[DataUse], out: &mut K) -> Result<(), QueryFault>
+/// Puts the lines of the uses of a region's blocks, part after part.
+fn put_region<K: Sink>(
+    alloc: Global,
+    found: &Found,
+    region: Region,
+    out: &mut K,
+) -> Result<(), QueryFault>
     requires { (K.state out.old).access ≡ 1 }
-    ensures whole { OnOk result (Appends (uses_text uses.now) (K.state out.old).written (K.state out.new).written) }
-    ensures front { AppendsFront (uses_text uses.now) (K.state out.old).written (K.state out.new).written }
+    ensures whole { OnOk result (Appends (uses_text (ordered_uses region.first region.end (found_uses found.now))) (K.state out.old).written (K.state out.new).written) }
+    ensures front { AppendsFront (uses_text (ordered_uses region.first region.end (found_uses found.now))) (K.state out.old).written (K.state out.new).written }
     ensures sink { KeepsSink (K.state out.old) (K.state out.new) }
-    ensures faults { SinkFails result (K.state out.old).faults (K.state out.new).faults }
+    ensures faults { PutFails result (K.state out.old).faults (K.state out.new).faults }
 {
     let mut printer = Printer::to_sink(out);
-    add_uses(uses, &mut printer)?;
+    let cuts = found.cuts(alloc)?;
+    add_parts(alloc, found, region, cuts.as_slice(), &mut printer)?;
     finish(printer)
+}
+
+/// Prints the lines of the uses of a region's blocks, part after part. Each of these blocks ends one, or an empty one where
+/// it isn't in what is left.
+fn add_parts<K: Sink>(
+    alloc: Global,
+    found: &Found,
+    region: Region,
+    cuts: &[u64],
+    printer: &mut Printer<'_, K>,
+) -> Result<(), QueryFault>
+    requires { (K.state printer.old.out.now).access ≡ 1 }
+    ensures same_reference { printer.new.out.ghost_name ≡ printer.old.out.ghost_name }
+    ensures prints { Prints (uses_text (ordered_uses region.first region.end (found_uses found.now))) result (printing K.state printer.old) (printing K.state printer.new) }
+    ensures faults { PutFails result (K.state printer.old.out.now).faults (K.state printer.new.out.now).faults }
+{
+    let last = region.end.max(region.first);
+    let mut first = region.first;
+    for cut in cuts {
+        let end = part_end(*cut, first, last);
+        add_part(alloc, found, Region { first, end }, printer)?;
+        first = end;
+    }
+    let end = last;
+    add_part(alloc, found, Region { first, end }, printer)
+}
+
+/// Where a part ends that begins at the first block: at the given one, if it is neither before that nor past the last one.
+fn part_end(cut: u64, first: u64, last: u64) -> u64
+    requires { first ≤ last }
+    ensures from { first ≤ result }
+    ensures to { result ≤ last }
+{
+    cut.max(first).min(last)
+}
+
+/// Prints the lines of the uses of a region's blocks, which are held at once.
+fn add_part<K: Sink>(
+    alloc: Global,
+    found: &Found,
+    region: Region,
+    printer: &mut Printer<'_, K>,
+) -> Result<(), QueryFault>
+    requires { (K.state printer.old.out.now).access ≡ 1 }
+    ensures same_reference { printer.new.out.ghost_name ≡ printer.old.out.ghost_name }
+    ensures prints { Prints (uses_text (ordered_uses region.first region.end (found_uses found.now))) result (printing K.state printer.old) (printing K.state printer.new) }
+    ensures faults { PutFails result (K.state printer.old.out.now).faults (K.state printer.new.out.now).faults }
+{
+    let uses = region_uses(alloc, found, region)?;
+    add_uses(uses.as_slice(), printer)
 }
 
 /// Prints the lines of uses.

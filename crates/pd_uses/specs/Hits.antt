@@ -1,0 +1,35 @@
+-- The mappings to the data blocks of a region, as the leaves of a pool's trees have them.
+use Rattle.std.specs.Prelude.{ℕ, Bool, ◌&&◌, not, nat_lt, List, map, filter}
+use Rattle.std.specs.List.{flat_map}
+use Rattle.pd_value.specs.declared.thin.BlockTime.{BlockTime}
+use Rattle.pd_tree.specs.Below.{items_below, items_from}
+use Rattle.pd_thin_meaning.specs.Items.{block_time_of}
+use Rattle.pd_uses.specs.declared.data_use.DataUse.{DataUse}
+use Rattle.pd_uses.specs.declared.hits.Hit.{Hit}
+use Rattle.pd_uses.specs.declared.hits.Region.{Region}
+
+-- an entry of a leaf as a mapping to a data block
+abbrev pub hit_of : ℕ × BlockTime → Hit
+hit_of item = record { block = item.1.block; virt = item.0 }
+
+-- the use that it is where a device has the leaf
+abbrev pub use_of : ℕ → Hit → DataUse
+use_of id hit = record { block = hit.block; id = id; virt = hit.virt }
+
+-- whether a block is in a region, and whether a mapping leads there
+abbrev pub has_block : Region → ℕ → Bool
+has_block region block = not (nat_lt block region.first) && nat_lt block region.end
+
+abbrev pub is_hit : Region → Hit → Bool
+is_hit region hit = has_block region hit.block
+
+-- the mappings of a leaf that lead there
+unfoldable pub hits_in : Region → List ℕ → List Hit
+hits_in region block = filter (is_hit region) (map hit_of (items_from 8 block_time_of block 0))
+
+-- those of the leaves that at most j inner edges lead to from a block, and from each of some blocks
+unfoldable pub hits_below : Region → List (List ℕ) → ℕ → ℕ → List Hit
+hits_below region image j b = filter (is_hit region) (map hit_of (items_below 8 block_time_of image j b))
+
+unfoldable pub hits_each : Region → List (List ℕ) → ℕ → List ℕ → List Hit
+hits_each region image j bs = flat_map (hits_below region image j) bs
