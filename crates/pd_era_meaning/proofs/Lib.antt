@@ -1,5 +1,9 @@
 pub mod HeldLemmas
 pub mod TakeLemmas
 pub mod RaiseLemmas
+pub mod FreshLemmas
+pub mod FromLemmas
+pub mod KnownLemmas
+pub mod WalkLemmas
 pub mod SetLemmas
 pub mod SoundEra

@@ -19,7 +19,7 @@ raises_none era f old none = record {
 }
 
 -- blocks that are held, and others
-twice : (era x : ℕ) (s t : Bool) → max (max x (cond s era 0)) (cond t era 0) ≡ max x (cond (s || t) era 0)
+pub twice : (era x : ℕ) (s t : Bool) → max (max x (cond s era 0)) (cond t era 0) ≡ max x (cond (s || t) era 0)
 twice era x true true = omega arith
 twice era x true false = omega arith
 twice era x false true = omega arith
@@ -42,7 +42,7 @@ or_none true = refl
 or_none false = refl
 
 -- a number below the next one, that isn't this one
-below_next : (n i : ℕ) → (n ≡ i → ⊥) → nat_lt n i ≡ nat_lt n (i + 1)
+pub below_next : (n i : ℕ) → (n ≡ i → ⊥) → nat_lt n i ≡ nat_lt n (i + 1)
 below_next n i other = elim (cases_lt n i) [
   | inl less ↦ rw (lt-ltb n i less, lt-ltb n (i + 1) (omega arith)) refl
   | inr more ↦ rw (le-ltb n i more, le-ltb n (i + 1) (omega arith)) refl
@@ -54,7 +54,7 @@ this_word true true = refl
 this_word true false = refl
 this_word false set = refl
 
-other_word : (before later is : Bool) (held below any : Bool) → is ≡ false → before ≡ later → ((before && held) || (below && (is && any))) ≡ (later && held)
+pub other_word : (before later is : Bool) (held below any : Bool) → is ≡ false → before ≡ later → ((before && held) || (below && (is && any))) ≡ (later && held)
 other_word before later is held true any other same = rw (other, same) (or_none (later && held))
 other_word before later is held false any other same = rw same (or_none (later && held))
 

@@ -1,5 +1,5 @@
 -- The era of each block, by what cursors give of the bytes of an image.
-use Rattle.std.specs.Prelude.{◌≡◌, ℕ, ◌-◌, ◌^◌, ◌<◌, ◌==◌, ◌&&◌, not, max, min, Bool, if◌then◌else◌, List, [], length, map, fold, drop, slice_index}
+use Rattle.std.specs.Prelude.{◌≡◌, ℕ, ◌-◌, ◌^◌, ◌<◌, ◌==◌, ◌&&◌, not, max, min, Bool, if◌then◌else◌, List, length, map, fold, drop, slice_index}
 use Rattle.std.specs.List.{range_with_len}
 use Rattle.pd_kinds.specs.EraFormat.{EraFields, era_fields, writeset_bits, writeset_root}
 use Rattle.pd_kinds.specs.Graph.{block_at}

@@ -1,2 +1,3 @@
 pub mod Raising
 pub mod Eras
+pub mod Walk

@@ -20,7 +20,9 @@ use std::alloc::Global;
 
 /// The era of each block of the target with this superblock, by ascending block, from block 0.
 ///
-/// It takes four bytes a block, and the memory of two cursors at a time. What it gives is said over the bytes of any
+/// It takes four bytes and a bit a block, 24 bytes an archived writeset, at most 32 bytes a block of the device, and the
+/// memory of two cursors at a time. The array blocks below a leaf of a writeset's tree are read once, however many archived
+/// writesets have the leaf at one place in their arrays. What it gives is said over the bytes of any
 /// image that the device tells: in an image without faults up to the stage Whole, whose superblock this is, these are the
 /// eras of its meaning. Over any device and superblock it is safe: a root outside of the device is that of an empty tree
 /// or array, and a key past the end of an era's type counts as the last era.

@@ -5,11 +5,15 @@
 //! image without faults: the eras of its meaning.
 #![tactic(auto)]
 
+mod archived;
 mod array;
 mod eras;
+mod fresh;
 mod laws;
+mod leaves;
 mod raising;
 mod sets;
+mod walk;
 
 pub use eras::era_list;
 pub use laws::lists_are_the_eras;

@@ -8,8 +8,9 @@ ghost use Rattle.pd_tree.specs.ArrayCursor.{array_words};
 ghost use Rattle.pd_tree.specs.Cursor.{cursor_items, cursor_number};
 ghost use Rattle.pd_tree.specs.Next.{IsNext};
 ghost use Rattle.pd_era_meaning.specs.Raising.{Raises, holds};
-ghost use Rattle.pd_era_meaning.specs.Eras.{HasSets, era_of_key as era_of_key_of, eras_below, is_current, set_of, sets_below, words_below};
+ghost use Rattle.pd_era_meaning.specs.Eras.{era_of_key as era_of_key_of, eras_below, is_current, set_of, words_below};
 
+use crate::archived::raise_archived;
 use crate::array::{start_array, take_word};
 use crate::raising::raise_word;
 use pd_array::Word;
@@ -46,7 +47,7 @@ fn raise_words<D: Device>(
 }
 
 /// Where the bits of a writeset end that count: at its number of bits, or where there are no more blocks.
-fn end_of(bits: u32, eras: &[u32]) -> u32
+pub(crate) fn end_of(bits: u32, eras: &[u32]) -> u32
     ensures bits { result ≤ bits }
     ensures eras { result ≤ length eras.now }
     ensures most { (b : ℕ) → b < bits → b < length eras.now → b < result }
@@ -78,7 +79,7 @@ fn raise_set<D: Device>(
 }
 
 /// The next archived writeset beside its key, or `None` after the last one.
-fn next_set<D: Device>(
+pub(crate) fn next_set<D: Device>(
     sets: &mut Cursor<Writeset>,
     dev: &mut D,
 ) -> Result<Option<(u64, Writeset)>, CheckFault>
@@ -95,49 +96,10 @@ fn next_set<D: Device>(
 }
 
 /// The era that a key is; one past the end of its type is the last one.
-fn era_of_key(key: u64) -> u32
+pub(crate) fn era_of_key(key: u64) -> u32
     ensures { result ≡ era_of_key_of key }
 {
     key.min(u64::from(u32::MAX)) as u32
-}
-
-/// Raises the eras of the blocks that the writesets hold that are left, each to its own.
-fn raise_left<D: Device>(
-    alloc: Global,
-    dev: &mut D,
-    eras: &mut [u32],
-    sets: &mut Cursor<Writeset>,
-) -> Result<(), CheckFault>
-    requires attached { IsAttached (D.state dev.old) }
-    ensures raised { OnOk result (IfSome (D.state dev.old).held (λ image. HasSets image (cursor_items 12 set_of image sets.old) eras.old eras.new)) }
-    ensures number { length eras.new ≡ length eras.old }
-    ensures kept { OnlyReads (D.state dev.old) (D.state dev.new) }
-    ensures faults { CountsCheckFault result (D.state dev.old).faults (D.state dev.new).faults }
-{
-    while let Some((key, set)) = next_set(sets, dev)? {
-        raise_set(alloc, dev, eras, set, era_of_key(key))?;
-    }
-    Ok(())
-}
-
-/// Raises the eras of the blocks that the archived writesets hold of the tree with this root, each to its own.
-fn raise_archived<D: Device>(
-    alloc: Global,
-    dev: &mut D,
-    eras: &mut [u32],
-    root: u64,
-) -> Result<(), CheckFault>
-    requires attached { IsAttached (D.state dev.old) }
-    ensures raised { OnOk result (IfSome (D.state dev.old).held (λ image. HasSets image (sets_below image root) eras.old eras.new)) }
-    ensures number { length eras.new ≡ length eras.old }
-    ensures kept { OnlyReads (D.state dev.old) (D.state dev.new) }
-    ensures faults { CountsCheckFault result (D.state dev.old).faults (D.state dev.new).faults }
-{
-    let mut sets = match Cursor::start(alloc, root) {
-        Ok(sets) => sets,
-        Err(_) => return Err(CheckFault::Memory),
-    };
-    raise_left(alloc, dev, eras, &mut sets)
 }
 
 /// Raises the eras of the blocks to the current one that the current writeset holds, where there is one.

@@ -1,0 +1,194 @@
+-- Eras that are raised but for the blocks whose eras are as high.
+use Rattle.std.proofs.Common.{◌≡◌, inl, inr, ℕ, zero, suc, ◌+◌, ◌-◌, ◌*◌, ◌/◌, ◌%◌, ◌<◌, ◌≤◌, Bool, true, false, not, ◌&&◌, ◌||◌, nat_eq, nat_lt, max, List, length, get_or, set, refl, sym, ◌∙◌, arith, eq-eqb}
+use Rattle.std.specs.Int.{bit_at}
+use Rattle.std.specs.Int.Bits.{bit_or, bit_xor}
+use Rattle.std.specs.List.{range_with_len}
+use Rattle.std.proofs.lemmas.Bool.{cases_eq, cases_lt, lt-ltb, le-ltb, ne_eqb}
+use Rattle.std.proofs.lemmas.List.{get_or_past, get_or-set_other, get_or-set_same, length-map}
+use Rattle.std.proofs.lemmas.List.FromFn.{get_or-map-range_with_len, length-range_with_len}
+use Rattle.std.proofs.lemmas.Nat.Bits.{bit_at-lt, bit_at-zero, bit_at_or, bit_at_xor}
+use Rattle.pd_kinds.specs.Array.{word_at, word_count}
+use Rattle.pd_kinds.specs.Meaning.{is_bit_set}
+use Rattle.pd_tree.specs.Words.{words_from}
+use Rattle.pd_era_meaning.specs.Raising.{AreAtLeast, Raises, holds_from, holds_in_word, raised as raised_by}
+use Rattle.pd_era_meaning.proofs.RaiseLemmas.{below_next, other_word}
+
+-- an era that is as high stays
+pub raised_low : (era x : ℕ) (held : Bool) → era ≤ x → raised_by era held x ≡ x
+raised_low era x true low = omega arith
+raised_low era x false low = omega arith
+
+-- eras that were at least as high are so after others were raised
+pub still_high : (high era least : ℕ) (f g : ℕ → Bool) (old new : List ℕ) → least ≤ high → Raises era f old new → AreAtLeast high g old → AreAtLeast least g new
+still_high high era least f g old new less raised low = record {
+  each = λ b within is.
+      let there : b < length old = let same = raised.number in omega arith in
+      let now = raised.each b there in
+      let before = low.each b there is in
+      omega arith;
+}
+
+-- those that were raised are
+pub raised_high : (era : ℕ) (f : ℕ → Bool) (old new : List ℕ) → Raises era f old new → AreAtLeast era f new
+raised_high era f old new raised = record {
+  each = λ b within is.
+      let there : b < length old = let same = raised.number in omega arith in
+      let now = rw is at (raised.each b there) in
+      omega arith;
+}
+
+-- and where they are as high nothing is raised
+pub nothing_raised : (era : ℕ) (f : ℕ → Bool) (eras : List ℕ) → AreAtLeast era f eras → Raises era f eras eras
+nothing_raised era f eras high = record {
+  number = refl;
+  each = λ b within. sym (at (f b) (get_or eras b 0) (high.each b within));
+}
+  where
+    at : (held : Bool) (x : ℕ) → (held ≡ true → era ≤ x) → raised_by era held x ≡ x
+    at true x low = raised_low era x true (low refl)
+    at false x low = omega arith
+
+-- the bits of a word that others don't have
+fresh_table : (a b : ℕ) → a < 2 → b < 2 → nat_eq ((max a b + b) % 2) 1 ≡ (nat_eq a 1 && not (nat_eq b 1))
+fresh_table zero zero h k = refl
+fresh_table zero (suc zero) h k = refl
+fresh_table zero (suc (suc b)) h k = absurd (omega arith)
+fresh_table (suc zero) zero h k = refl
+fresh_table (suc zero) (suc zero) h k = refl
+fresh_table (suc zero) (suc (suc b)) h k = absurd (omega arith)
+fresh_table (suc (suc a)) b h k = absurd (omega arith)
+
+fresh_bit : (word known k : ℕ) → nat_eq (bit_at (bit_xor (bit_or word known) known) k) 1 ≡ (nat_eq (bit_at word k) 1 && not (nat_eq (bit_at known k) 1))
+fresh_bit word known k =
+    rw (bit_at_xor (bit_or word known) known k, bit_at_or word known k) (fresh_table (bit_at word k) (bit_at known k) (bit_at-lt word k) (bit_at-lt known k))
+
+-- they raise the same
+at_place : (era x : ℕ) (below is word known : Bool) → (known ≡ true → era ≤ x) → raised_by era (below && (is && (word && not known))) x ≡ raised_by era (below && (is && word)) x
+at_place era x below is word true low =
+    raised_low era x (below && (is && (word && false))) (low refl) ∙ sym (raised_low era x (below && (is && word)) (low refl))
+at_place era x below is true false low = refl
+at_place era x below is false false low = refl
+
+pub fresh_raises : (era end number word : ℕ) (taken old new : List ℕ) → AreAtLeast era (is_bit_set taken) old
+    → Raises era (holds_in_word end number (bit_xor (bit_or word (get_or taken number 0)) (get_or taken number 0))) old new → Raises era (holds_in_word end number word) old new
+fresh_raises era end number word taken old new low raised = record {
+  number = raised.number;
+  each = λ b within. raised.each b within ∙ one b within;
+}
+  where
+    one : (b : ℕ) → b < length old
+        → raised_by era (holds_in_word end number (bit_xor (bit_or word (get_or taken number 0)) (get_or taken number 0)) b) (get_or old b 0) ≡ raised_by era (holds_in_word end number word b) (get_or old b 0)
+    one b within = elim (cases_eq (b / 64) number) [
+      | inl here ↦
+          rw (fresh_bit word (get_or taken number 0) (b % 64))
+          (at_place era (get_or old b 0) (nat_lt b end) (nat_eq (b / 64) number) (nat_eq (bit_at word (b % 64)) 1) (nat_eq (bit_at (get_or taken number 0) (b % 64)) 1)
+          (rw here at (low.each b within)))
+      | inr other ↦ rw (ne_eqb (b / 64) number other) refl
+    ]
+
+-- a word's blocks are noted
+or_table : (a b : ℕ) → a < 2 → b < 2 → nat_eq (max a b) 1 ≡ (nat_eq a 1 || nat_eq b 1)
+or_table zero zero h k = refl
+or_table zero (suc zero) h k = refl
+or_table zero (suc (suc b)) h k = absurd (omega arith)
+or_table (suc zero) zero h k = refl
+or_table (suc zero) (suc zero) h k = refl
+or_table (suc zero) (suc (suc b)) h k = absurd (omega arith)
+or_table (suc (suc a)) b h k = absurd (omega arith)
+
+either : (s t : Bool) (P : Type 0) → (s || t) ≡ true → (s ≡ true → P) → (t ≡ true → P) → P
+either true t P is left right = left refl
+either false t P is left right = right is
+
+pub taken_more : (era end number word : ℕ) (taken later eras : List ℕ) → number < length taken → 64 * number + 64 ≤ end → later ≡ set taken number (bit_or (get_or taken number 0) word)
+    → AreAtLeast era (is_bit_set taken) eras → AreAtLeast era (holds_in_word end number word) eras → AreAtLeast era (is_bit_set later) eras
+taken_more era end number word taken later eras inside whole is known new = record {
+  each = λ b within set. elim (cases_eq (b / 64) number) [
+    | inl here ↦
+        let bits = rw (
+          is,
+          here,
+          get_or-set_same taken number (bit_or (get_or taken number 0) word) 0 inside,
+          bit_at_or (get_or taken number 0) word (b % 64),
+          or_table (bit_at (get_or taken number 0) (b % 64)) (bit_at word (b % 64)) (bit_at-lt (get_or taken number 0) (b % 64)) (bit_at-lt word (b % 64)),
+        ) at set in
+        let below : b < end = omega arith in
+        either (nat_eq (bit_at (get_or taken number 0) (b % 64)) 1) (nat_eq (bit_at word (b % 64)) 1) (era ≤ get_or eras b 0) bits
+        (rw here at (known.each b within))
+        (λ one. new.each b within (rw (lt-ltb b end below, here, eq-eqb number number refl, one) refl))
+    | inr other ↦
+        known.each b within (rw (is, get_or-set_other taken number (b / 64) (bit_or (get_or taken number 0) word) 0 other) at set)
+  ];
+}
+
+-- a word past the end holds none
+pub word_past : (end number word b : ℕ) → end ≤ 64 * number → holds_in_word end number word b ≡ false
+word_past end number word b past = elim (cases_eq (b / 64) number) [
+  | inl here ↦ rw (le-ltb b end (omega arith)) refl
+  | inr other ↦ rw (ne_eqb (b / 64) number other) (none (nat_lt b end))
+]
+  where
+    none : (t : Bool) → (t && false) ≡ false
+    none true = refl
+    none false = refl
+
+-- words before one of them
+abbrev pub holds_upto : ℕ → ℕ → List ℕ → ℕ → ℕ → Bool
+holds_upto end first words i b = nat_lt (b / 64) (first + i) && holds_from end first words b
+
+none_yet : (before below set : Bool) → (before && (below && (not before && set))) ≡ false
+none_yet true true set = refl
+none_yet true false set = refl
+none_yet false below set = refl
+
+pub upto_none : (end first : ℕ) (words : List ℕ) (b : ℕ) → holds_upto end first words 0 b ≡ false
+upto_none end first words b =
+    let same : first + 0 ≡ first = omega arith in
+    rw same (none_yet (nat_lt (b / 64) first) (nat_lt b end) (nat_eq (bit_at (get_or words (b / 64 - first) 0) (b % 64)) 1))
+
+this_word : (below set : Bool) → (false || (below && (true && set))) ≡ (true && (below && (true && set)))
+this_word true true = refl
+this_word true false = refl
+this_word false set = refl
+
+pub upto_more : (end first : ℕ) (words : List ℕ) (i word b : ℕ) → word ≡ get_or words i 0
+    → (holds_upto end first words i b || holds_in_word end (first + i) word b) ≡ holds_upto end first words (i + 1) b
+upto_more end first words i word b is = elim (cases_eq (b / 64) (first + i)) [
+  | inl here ↦
+      let place : b / 64 - first ≡ i = omega arith in
+      let more : b / 64 < first + (i + 1) = omega arith in
+      let less : first + i ≤ b / 64 = omega arith in
+      let after : first ≤ b / 64 = omega arith in
+      rw (le-ltb (b / 64) (first + i) less, lt-ltb (b / 64) (first + (i + 1)) more, le-ltb (b / 64) first after, eq-eqb (b / 64) (first + i) here, place, is)
+      (this_word (nat_lt b end) (nat_eq (bit_at (get_or words i 0) (b % 64)) 1))
+  | inr other ↦
+      let next : first + (i + 1) ≡ (first + i) + 1 = omega arith in
+      rw next
+      (other_word (nat_lt (b / 64) (first + i)) (nat_lt (b / 64) (first + i + 1)) (nat_eq (b / 64) (first + i)) (holds_from end first words b) (nat_lt b end) (nat_eq (bit_at word (b % 64)) 1)
+      (ne_eqb (b / 64) (first + i) other) (below_next (b / 64) (first + i) other))
+]
+
+none_past : (before below : Bool) → (before && (below && (true && false))) ≡ (below && (true && false))
+none_past true below = refl
+none_past false true = refl
+none_past false false = refl
+
+pub upto_all : (end first : ℕ) (words : List ℕ) (i b : ℕ) → i ≡ length words → holds_upto end first words i b ≡ holds_from end first words b
+upto_all end first words i b all = elim (cases_lt (b / 64) (first + i)) [
+  | inl below ↦ rw (lt-ltb (b / 64) (first + i) below) refl
+  | inr past ↦
+      let none = get_or_past words (b / 64 - first) 0 (omega arith) in
+      rw (le-ltb (b / 64) first (omega arith), none, bit_at-zero (b % 64)) (none_past (nat_lt (b / 64) (first + i)) (nat_lt b end))
+]
+
+-- the words of a block
+pub length-words : (size : ℕ) (block : List ℕ) → length (words_from size block 0) ≡ word_count size block
+unfolding words_from
+length-words size block =
+    let n = word_count size block - 0 in
+    let same : n ≡ word_count size block = omega arith in
+    length-map {A = ℕ} {B = ℕ} (range_with_len 0 n) (word_at size block) ∙ (length-range_with_len 0 n ∙ same)
+
+pub word_in : (size : ℕ) (block : List ℕ) (i : ℕ) → i < word_count size block → get_or (words_from size block 0) i 0 ≡ word_at size block i
+unfolding words_from
+word_in size block i within = get_or-map-range_with_len (word_at size block) 0 (word_count size block - 0) i i 0 (omega arith) (omega arith)

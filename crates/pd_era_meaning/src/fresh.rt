@@ -1,0 +1,68 @@
+//! Eras that are raised where a word says so, but for the blocks that were raised before.
+
+ghost use Rattle.std.specs.Prelude.{◌≡◌, ◌+◌, ◌*◌, ◌^◌, ◌<◌, ◌≤◌, length, slice_index, slice_set};
+ghost use Rattle.std.specs.Int.Bits.{bit_or};
+ghost use Rattle.pd_kinds.specs.Meaning.{is_bit_set};
+ghost use Rattle.pd_tree.specs.Words.{words_from};
+ghost use Rattle.pd_era_meaning.specs.Raising.{AreAtLeast, Raises, holds_from, holds_in_word};
+
+use crate::raising::raise_word;
+use pd_array::{Word, array_len, array_word};
+use pd_kinds::Block;
+
+/// The number of bits in a word.
+const WORD_BITS: u64 = 64;
+
+/// Notes the blocks of the word with this number as raised, if all of them stand before the end.
+fn take(taken: &mut [u64], number: u64, word: u64, end: u64)
+    requires within { number < length taken.old }
+    requires fits { number < 2 ^ 32 }
+    ensures whole { 64 * number + 64 ≤ end → taken.new ≡ slice_set taken.old number (bit_or (slice_index taken.old number) word) }
+    ensures part { end < 64 * number + 64 → taken.new ≡ taken.old }
+{
+    if WORD_BITS * number + WORD_BITS <= end {
+        taken[number as usize] |= word;
+    }
+}
+
+/// Raises the eras of the blocks before the end to this one whose bits are set in the word with this number. Those that
+/// `taken` has are as high.
+fn raise_fresh(eras: &mut [u32], taken: &mut [u64], number: u64, word: u64, end: u64, era: u32)
+    requires within { end ≤ length eras.old }
+    requires room { end ≤ 64 * length taken.old }
+    requires fits { end ≤ 4294967296 }
+    requires taken { AreAtLeast era (is_bit_set taken.old) eras.old }
+    ensures raised { Raises era (holds_in_word end number word) eras.old eras.new }
+    ensures taken { AreAtLeast era (is_bit_set taken.new) eras.new }
+{
+    if number >= end.div_ceil(WORD_BITS) {
+        return;
+    }
+    let known = taken[number as usize];
+    raise_word(eras, number, (word | known) ^ known, end, era);
+    take(taken, number, word, end);
+}
+
+/// Raises the eras of the blocks before the end to this one that the words of an array block hold, the first of which has
+/// this number in its array.
+pub(crate) fn raise_words_of(
+    block: &Block,
+    first: u64,
+    eras: &mut [u32],
+    taken: &mut [u64],
+    end: u64,
+    era: u32,
+)
+    requires first { first < 2 ^ 33 }
+    requires within { end ≤ length eras.old }
+    requires room { end ≤ 64 * length taken.old }
+    requires fits { end ≤ 4294967296 }
+    requires taken { AreAtLeast era (is_bit_set taken.old) eras.old }
+    ensures raised { Raises era (holds_from end first (words_from 8 block.now.0 0)) eras.old eras.new }
+    ensures taken { AreAtLeast era (is_bit_set taken.new) eras.new }
+{
+    for i in 0..array_len(block, Word::Eight) {
+        let word = array_word(block, Word::Eight, i);
+        raise_fresh(eras, taken, first + i as u64, word, end, era);
+    }
+}
