@@ -118,12 +118,7 @@ fn a_held_copy_shares_no_blocks(rt: HostRuntime) -> Result<(), Fail> {
     let mut image = of_three(FIRST, SECOND, FIRST);
     image[0] = write_thin_super(&superblock(2, 11));
     image[11] = held_copy(11, &superblock(2, 0));
-    expect_list(
-        &rt,
-        rt.alloc(),
-        &image,
-        ([FIRST, SECOND, FIRST], [0, 1, 0]),
-    )?;
+    expect_list(&rt, rt.alloc(), &image, ([FIRST, SECOND, FIRST], [0, 1, 0]))?;
     Ok(())
 }
 
