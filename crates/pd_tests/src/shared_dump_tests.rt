@@ -21,13 +21,6 @@ pub(crate) struct Top {
     mapped: u64,
 }
 
-impl Top {
-    /// How many mappings are below it.
-    pub(crate) fn mapped(self) -> u64 {
-        self.mapped
-    }
-}
-
 /// The leaf in block 1: virtual block 0 in data block 0.
 pub(crate) const FIRST: Top = Top { root: 1, mapped: 1 };
 
