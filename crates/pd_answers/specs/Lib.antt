@@ -8,10 +8,13 @@ pub mod Flag
 pub mod Answer
 pub mod Reads
 pub mod Terms
+pub mod Makings
 pub mod Outputs
 pub mod CachedView
 pub mod Restores
 pub mod Repairs
+pub mod Searches
+pub mod CacheRepairs
 pub mod Rehearsals
 pub mod Writebacks
 pub mod MovedPool

@@ -1,6 +1,6 @@
 -- Trusted base.
 -- What is left of the output of a request that makes an image of it, and when the work of a request is done.
-use Rattle.std.specs.Prelude.{◌≡◌, ◌≢◌, ◌⊎◌, ℕ, Bool, true, List, length, IfSome}
+use Rattle.std.specs.Prelude.{◌≡◌, ◌≢◌, ◌⊎◌, ℕ, Bool, true, not, ◌==◌, List, length, IfSome}
 use Rattle.pd_kinds.specs.Limits.{room_of}
 use Rattle.pd_kinds.specs.Objects.{DeviceState}
 use Rattle.pd_kinds.specs.Crash.{HoldsOldOrNone, HoldsSynced, IsOutput, IsUntouched}
@@ -32,3 +32,13 @@ pub record LeavesMadeLast (Made : List (List ℕ) → List (List ℕ) → Type 0
   pub made : LeavesMade Made unwritten status old new
   -- at any status but 0 it is as it was, or has no valid superblock, unless it failed itself
   pub kept : status ≢ 0 → new.faults ≡ old.faults → HoldsOldOrNone old new
+
+-- What is left of it where a line is put after the work that makes the image, by the status of the answer: at any but 0 nothing is made
+pub record LeavesMadeFirst (Made : List (List ℕ) → List (List ℕ) → Type 0) (answered : ℕ) (before after : Objects) (status : ℕ) : Type 0 where
+  pub output : LeavesMade Made (not (answered == 0)) status before.output after.output
+  -- once the work is done it holds what was made, also where the line couldn't be put after that
+  pub made : IsWorkDone before after status → HoldsMade Made before.output after.output
+  -- and while `out` isn't touched, at any status but 0 it is as it was, or has no valid superblock, unless it failed itself
+  pub kept : status ≢ 0 → after.out ≡ before.out → after.output.faults ≡ before.output.faults → HoldsOldOrNone before.output after.output
+  -- the input is read before the output is written: its fault leaves the output alone
+  pub input_failed : status ≡ 5 → after.output.faults ≡ before.output.faults → IsUntouched before.output after.output

@@ -1,6 +1,6 @@
 -- Trusted base.
 -- The terms of each request: what the tools promise.
-use Rattle.std.specs.Prelude.{◌≡◌, ◌≢◌, ℕ, true, false, ◌==◌, if◌then◌else◌, List, [], ◌∷◌, Option, Some, None, IfSome, unwrap_or}
+use Rattle.std.specs.Prelude.{◌≡◌, ◌≢◌, ℕ, ◌==◌, if◌then◌else◌, List, [], ◌∷◌, Option, Some, None, IfSome, unwrap_or}
 use Rattle.pd_kinds.specs.declared.kind.Flagged.{Flagged}
 use Rattle.pd_kinds.specs.declared.kind.Kind.{Kind}
 use Rattle.pd_kinds.specs.declared.kind.Passing.{Passing}
@@ -19,7 +19,9 @@ use Rattle.pd_answers.specs.Answer.{Answer, reading, writing}
 use Rattle.pd_answers.specs.Reads.{few_reads, any_reads}
 use Rattle.pd_answers.specs.Terms.{Terms, unnamed, nothing}
 use Rattle.pd_answers.specs.Restores.{restore}
-use Rattle.pd_answers.specs.Repairs.{repair, search}
+use Rattle.pd_answers.specs.Repairs.{repair}
+use Rattle.pd_answers.specs.Searches.{search}
+use Rattle.pd_answers.specs.CacheRepairs.{repair_cache}
 use Rattle.pd_answers.specs.Rehearsals.{rehearse}
 use Rattle.pd_answers.specs.Writebacks.{writeback}
 use Rattle.pd_answers.specs.Shrinks.{shrink}
@@ -132,8 +134,9 @@ terms_of (Some (request.passing_check kind path)) = check kind Counts Leaks path
 terms_of (Some (request.check_and_clear flagged passing path)) = check_and_clear flagged passing path
 terms_of (Some (request.query asked file path)) = query asked file path
 terms_of (Some (request.restore kind version file path)) = restore kind version file path
-terms_of (Some (request.repair from to)) = repair from to
-terms_of (Some (request.search from to transaction block_size blocks)) = search from to transaction block_size blocks
+terms_of (Some (request.repair shared from to)) = repair shared from to
+terms_of (Some (request.search shared from to transaction block_size blocks)) = search shared from to transaction block_size blocks
+terms_of (Some (request.repair_cache version from to)) = repair_cache version from to
 terms_of (Some (request.generate number file)) = generate number file
 terms_of (Some (request.rehearse number path)) = rehearse number path
 terms_of (Some (request.writeback metadata fast origin)) = writeback metadata fast origin

@@ -1,6 +1,6 @@
 -- Trusted base.
 -- What can be asked of the tools.
-use Rattle.std.specs.Prelude.{ℕ, List, Option}
+use Rattle.std.specs.Prelude.{ℕ, Bool, List, Option}
 use Rattle.pd_kinds.specs.declared.kind.Flagged.{Flagged}
 use Rattle.pd_kinds.specs.declared.kind.Kind.{Kind}
 use Rattle.pd_kinds.specs.declared.kind.Passing.{Passing}
@@ -19,10 +19,12 @@ pub data Request : Type 0 where
   query : Asked → Option (List ℕ) → List ℕ → Request
   -- an image of this version of its format, from the text of a file
   restore : Kind → ℕ → List ℕ → List ℕ → Request
-  -- what can be saved of an image, to another one
-  repair : List ℕ → List ℕ → Request
+  -- what can be saved of an image, to another one, with the leaves that its devices share or without
+  repair : Bool → List ℕ → List ℕ → Request
   -- the same without a superblock: its transaction, block size and number of data blocks are given
-  search : List ℕ → List ℕ → ℕ → ℕ → ℕ → Request
+  search : Bool → List ℕ → List ℕ → ℕ → ℕ → ℕ → Request
+  -- what can be saved of a cache to another image, in this version of the metadata, or in its own
+  repair_cache : Option ℕ → List ℕ → List ℕ → Request
   -- the text of the generator for a number
   generate : ℕ → Option (List ℕ) → Request
   -- the restore, check and dump of that text, over an image

@@ -11,10 +11,10 @@ use Rattle.pd_spells.specs.Lines.{reported_lines, no_room_line}
 use Rattle.pd_spells.specs.ThinNeed.{thin_need}
 use Rattle.pd_answers.specs.Answer.{Answer, Objects, reading, writing}
 use Rattle.pd_answers.specs.CachedView.{blocks_each, is_block_size_bad}
+use Rattle.pd_answers.specs.Makings.{LaysPool}
 use Rattle.pd_answers.specs.MovedPool.{Move, end_of_pool, sources, free_blocks, moves_to, moved_pool, copy_of_move, data_after, moved_need, data_need}
 use Rattle.pd_answers.specs.Outputs.{HoldsMade, IsRoom, IsWorkDone, LeavesMade}
 use Rattle.pd_answers.specs.Reads.{any_reads}
-use Rattle.pd_answers.specs.Repairs.{LaysPool}
 use Rattle.pd_answers.specs.Terms.{Terms, unnamed}
 use Rattle.pd_answers.specs.Writebacks.{HasBlocks, KeepsOthers, block_size_line, noted}
 

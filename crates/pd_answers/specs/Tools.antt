@@ -54,7 +54,7 @@ passing_word = named (codes "--ignore-non-fatal-errors") flag
 abbrev pub clear_word : Word
 clear_word = named (codes "--clear-needs-check-flag") flag
 
--- the file for what is printed, and whether shared leaves are told once in it
+-- the file for what is printed, and whether shared leaves are told once in it, or kept in what is written
 abbrev pub file_word : Word
 file_word = named (codes "-o") (optional file)
 
@@ -117,6 +117,7 @@ pub data Tool : Type 0 where
   dump_tool : Kind → Tool
   restore_tool : Kind → Tool
   repair_tool : Tool
+  cache_repair_tool : Tool
   rmap_tool : Tool
   device_list_tool : Tool
   since_tool : Tool
@@ -142,7 +143,8 @@ tools =
     ∷ record { name = codes "thin_restore"; tool = restore_tool Thin; words = text_word ∷ output_word ∷ [] }
     ∷ record { name = codes "cache_restore"; tool = restore_tool Cache; words = version_word ∷ text_word ∷ output_word ∷ [] }
     ∷ record { name = codes "era_restore"; tool = restore_tool Era; words = text_word ∷ output_word ∷ [] }
-    ∷ record { name = codes "thin_repair"; tool = repair_tool; words = input_word ∷ output_word ∷ transaction_word ∷ block_size_word ∷ data_blocks_word ∷ [] }
+    ∷ record { name = codes "thin_repair"; tool = repair_tool; words = shared_word ∷ input_word ∷ output_word ∷ transaction_word ∷ block_size_word ∷ data_blocks_word ∷ [] }
+    ∷ record { name = codes "cache_repair"; tool = cache_repair_tool; words = version_word ∷ input_word ∷ output_word ∷ [] }
     ∷ record { name = codes "thin_rmap"; tool = rmap_tool; words = region_word ∷ file_word ∷ image_word ∷ [] }
     ∷ record { name = codes "thin_ls"; tool = device_list_tool; words = file_word ∷ image_word ∷ [] }
     ∷ record { name = codes "era_invalidate"; tool = since_tool; words = since_word ∷ file_word ∷ image_word ∷ [] }

@@ -14,9 +14,9 @@ use Rattle.pd_kinds.specs.declared.kind.Passing.TheVariants.{Nothing, Leaks}
 use Rattle.pd_kinds.specs.declared.kind.Stage.{Stage}
 use Rattle.pd_kinds.specs.declared.kind.Stage.TheVariants.{Super, Walk, Order, Whole, Counts}
 use Rattle.pd_answers.specs.QueryLines as ask
-use Rattle.pd_answers.specs.Tools.{Need, Tool, ToolWords, Value, Word, check_tool, dump_tool, restore_tool, repair_tool, rmap_tool, device_list_tool, since_tool, generate_tool, rehearse_tool, writeback_tool, shrink_tool, tools, image_word, until_word, passing_word, clear_word, file_word, shared_word, region_word, since_word, text_word, input_word, output_word, version_word, number_word, transaction_word, block_size_word, data_blocks_word, metadata_word, fast_word, origin_word, data_word, blocks_word}
+use Rattle.pd_answers.specs.Tools.{Need, Tool, ToolWords, Value, Word, check_tool, dump_tool, restore_tool, repair_tool, cache_repair_tool, rmap_tool, device_list_tool, since_tool, generate_tool, rehearse_tool, writeback_tool, shrink_tool, tools, image_word, until_word, passing_word, clear_word, file_word, shared_word, region_word, since_word, text_word, input_word, output_word, version_word, number_word, transaction_word, block_size_word, data_blocks_word, metadata_word, fast_word, origin_word, data_word, blocks_word}
 use Rattle.pd_answers.specs.Tools as table
-use Rattle.pd_answers.specs.Requests.{Request, check, passing_check, check_and_clear, query, restore, repair, search, generate, rehearse, writeback, shrink}
+use Rattle.pd_answers.specs.Requests.{Request, check, passing_check, check_and_clear, query, restore, repair, search, repair_cache, generate, rehearse, writeback, shrink}
 
 -- the next step needs the value of this one
 infixl 10 ◌>>=◌
@@ -244,10 +244,10 @@ dump_with Cache true file image = None
 dump_with Era true file image = None
 
 -- with all three numbers of the superblock that is wanting, or none
-abbrev pub repair_with : List ℕ → List ℕ → Option ℕ → Option ℕ → Option ℕ → Option Request
-repair_with input output None None None = Some (repair input output)
-repair_with input output (Some transaction) (Some block_size) (Some blocks) = Some (search input output transaction block_size blocks)
-repair_with input output _ _ _ = None
+abbrev pub repair_with : Bool → List ℕ → List ℕ → Option ℕ → Option ℕ → Option ℕ → Option Request
+repair_with shared input output None None None = Some (repair shared input output)
+repair_with shared input output (Some transaction) (Some block_size) (Some blocks) = Some (search shared input output transaction block_size blocks)
+repair_with shared input output _ _ _ = None
 
 -- what the items ask of a tool
 unfoldable pub request_of : Tool → List Item → Option Request
@@ -268,12 +268,18 @@ request_of (restore_tool kind) items = do
   image ← told output_word items
   Some (restore kind (version_or_first version) text image)
 request_of repair_tool items = do
+  shared ← told shared_word items
   input ← told input_word items
   output ← told output_word items
   transaction ← told transaction_word items
   block_size ← told block_size_word items
   blocks ← told data_blocks_word items
-  repair_with input output transaction block_size blocks
+  repair_with shared input output transaction block_size blocks
+request_of cache_repair_tool items = do
+  version ← told version_word items
+  input ← told input_word items
+  output ← told output_word items
+  Some (repair_cache version input output)
 request_of rmap_tool items = do
   region ← told region_word items
   file ← told file_word items
