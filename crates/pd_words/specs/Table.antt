@@ -6,7 +6,7 @@ use Rattle.pd_answers.specs.Words.{is_named_flag}
 use Rattle.pd_words.specs.declared.table.Need.{Need}
 use Rattle.pd_words.specs.declared.table.Need.TheVariants.{Flag, Wanted, Optional, Together}
 use Rattle.pd_words.specs.declared.table.Tool.{Tool}
-use Rattle.pd_words.specs.declared.table.Tool.TheVariants.{Check, Dump, Restore, Repair, ReverseMap, DeviceList, Since, Generate, Rehearse, Writeback, Shrink}
+use Rattle.pd_words.specs.declared.table.Tool.TheVariants.{Check, Dump, Restore, Repair, RepairCache, ReverseMap, DeviceList, Since, Generate, Rehearse, Writeback, Shrink}
 use Rattle.pd_words.specs.declared.table.ToolWords.{ToolWords}
 use Rattle.pd_words.specs.declared.table.Value.{Value}
 use Rattle.pd_words.specs.declared.table.Value.TheVariants.{File, Device, Stage, Version, Region, UpTo, Generated}
@@ -35,6 +35,7 @@ tool_as (Check kind) = asked.check_tool kind
 tool_as (Dump kind) = asked.dump_tool kind
 tool_as (Restore kind) = asked.restore_tool kind
 tool_as Repair = asked.repair_tool
+tool_as RepairCache = asked.cache_repair_tool
 tool_as ReverseMap = asked.rmap_tool
 tool_as DeviceList = asked.device_list_tool
 tool_as Since = asked.since_tool

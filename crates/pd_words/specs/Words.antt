@@ -6,12 +6,11 @@ use Rattle.pd_words.specs.declared.request.Asked.TheVariants as code
 use Rattle.pd_words.specs.declared.request.ImageQuery.{ImageQuery}
 use Rattle.pd_words.specs.declared.request.Name.{Name}
 use Rattle.pd_words.specs.declared.request.Request.{Request}
-use Rattle.pd_words.specs.declared.request.Request.TheVariants.{Check, PassingCheck, CheckAndClear, Dump, DumpShared, Restore, Repair, Search, Rmap, List as ListDevices, Since, Generate, Rehearse, Writeback, Shrink}
+use Rattle.pd_words.specs.declared.request.Request.TheVariants.{Check, PassingCheck, CheckAndClear, Dump, DumpShared, Restore, Repair, Search, RepairCache, Rmap, List as ListDevices, Since, Generate, Rehearse, Writeback, Shrink}
 use Rattle.pd_words.specs.declared.request.WordFault.{WordFault}
 use Rattle.pd_words.specs.Items.{word_at}
 use Rattle.pd_answers.specs.QueryLines as ask
 use Rattle.pd_answers.specs.Requests as requests
-use Rattle.pd_answers.specs.Words as asked
 
 -- the word of a name, and of one that may be left out
 abbrev pub word_of : List (List ℕ) → Name → List ℕ
@@ -36,9 +35,10 @@ request_as words (CheckAndClear flagged passing image) = requests.check_and_clea
 request_as words (Dump kind image out) = requests.query (ask.text kind) (words_of words out) (word_of words image)
 request_as words (DumpShared image out) = requests.query ask.shared_text (words_of words out) (word_of words image)
 request_as words (Restore kind text image version) = requests.restore kind version (word_of words text) (word_of words image)
-request_as words (Repair input output) = requests.repair (word_of words input) (word_of words output)
-request_as words (Search input output transaction block_size blocks) =
-    requests.search (word_of words input) (word_of words output) transaction block_size blocks
+request_as words (Repair input output shared) = requests.repair shared (word_of words input) (word_of words output)
+request_as words (Search input output shared transaction block_size blocks) =
+    requests.search shared (word_of words input) (word_of words output) transaction block_size blocks
+request_as words (RepairCache input output version) = requests.repair_cache version (word_of words input) (word_of words output)
 request_as words (Rmap first end image out) = requests.query (ask.reverse_map first end) (words_of words out) (word_of words image)
 request_as words (ListDevices image out) = requests.query ask.device_list (words_of words out) (word_of words image)
 request_as words (Since era image out) = requests.query (ask.since era) (words_of words out) (word_of words image)
@@ -98,8 +98,9 @@ AreNames number (CheckAndClear flagged passing image) = IsName number image
 AreNames number (Dump kind image out) = IsName number image × IsNameIfAny number out
 AreNames number (DumpShared image out) = IsName number image × IsNameIfAny number out
 AreNames number (Restore kind text image version) = IsName number text × IsName number image × IsVersion version
-AreNames number (Repair input output) = IsName number input × IsName number output
-AreNames number (Search input output transaction block_size blocks) = IsName number input × IsName number output × IsPoolSize blocks
+AreNames number (Repair input output shared) = IsName number input × IsName number output
+AreNames number (Search input output shared transaction block_size blocks) = IsName number input × IsName number output × IsPoolSize blocks
+AreNames number (RepairCache input output version) = IsName number input × IsName number output × IfSome version IsVersion
 AreNames number (Rmap first end image out) = IsName number image × IsNameIfAny number out
 AreNames number (ListDevices image out) = IsName number image × IsNameIfAny number out
 AreNames number (Since era image out) = IsName number image × IsNameIfAny number out

@@ -60,18 +60,26 @@ pub enum Request {
         image: Name,
         version: u32,
     },
-    /// An image of what can be saved of another one.
+    /// An image of what can be saved of another one, with the leaves that its devices share or without.
     Repair {
         input: Name,
         output: Name,
+        shared: bool,
     },
     /// The same without a superblock, whose transaction, block size in sectors and number of data blocks are given.
     Search {
         input: Name,
         output: Name,
+        shared: bool,
         transaction: u64,
         block_size: u32,
         blocks: u64,
+    },
+    /// An image of what can be saved of a cache, with this version of the metadata, or else its own.
+    RepairCache {
+        input: Name,
+        output: Name,
+        version: Option<u32>,
     },
     /// The mappings to the data blocks from `first` on and below `end`.
     Rmap {
@@ -162,6 +170,7 @@ impl Request {
             | Request::Restore { .. }
             | Request::Repair { .. }
             | Request::Search { .. }
+            | Request::RepairCache { .. }
             | Request::Generate { .. }
             | Request::Rehearse { .. }
             | Request::Writeback { .. }

@@ -19,6 +19,8 @@ pub enum Tool {
     Restore(Kind),
     /// thin_repair
     Repair,
+    /// cache_repair
+    RepairCache,
     /// thin_rmap
     ReverseMap,
     /// thin_ls
@@ -112,7 +114,7 @@ pub(crate) const FILE: Word = Word {
     need: Need::Optional(Value::File),
 };
 
-/// Whether shared leaves are told once.
+/// Whether shared leaves are told once, or kept in what is written.
 pub(crate) const SHARED: Word = Word {
     name: "--shared",
     need: Need::Flag,
@@ -209,7 +211,7 @@ pub(crate) const BLOCKS: Word = Word {
 };
 
 /// The tools, and what can be given to each.
-pub static TOOLS: [ToolWords; 17] = [
+pub static TOOLS: [ToolWords; 18] = [
     ToolWords {
         name: "thin_check",
         tool: Tool::Check(Kind::Thin),
@@ -258,7 +260,12 @@ pub static TOOLS: [ToolWords; 17] = [
     ToolWords {
         name: "thin_repair",
         tool: Tool::Repair,
-        words: &[INPUT, OUTPUT, TRANSACTION, BLOCK_SIZE, DATA_BLOCKS],
+        words: &[SHARED, INPUT, OUTPUT, TRANSACTION, BLOCK_SIZE, DATA_BLOCKS],
+    },
+    ToolWords {
+        name: "cache_repair",
+        tool: Tool::RepairCache,
+        words: &[VERSION, INPUT, OUTPUT],
     },
     ToolWords {
         name: "thin_rmap",

@@ -57,6 +57,7 @@ fn read_request(tool: Tool, words: &[String]) -> Option<Request>
         Tool::Dump(kind) => read_dump(kind, words),
         Tool::Restore(kind) => read_restore(kind, words),
         Tool::Repair => read_repair(words),
+        Tool::RepairCache => read_repair_cache(words),
         Tool::ReverseMap => read_rmap(words),
         Tool::DeviceList => read_device_list(words),
         Tool::Since => read_since(words),
@@ -176,16 +177,18 @@ fn read_repair(words: &[String]) -> Option<Request>
     ensures asked { read_as (map string_bytes words.now) result ≡ words_spec.request_of tools_spec.repair_tool (items_in (map string_bytes words.now)) }
     ensures names { IfSome result (AreNames (length words.now)) }
 {
+    let shared = flag(words, SHARED)?;
     let input = required(words, INPUT)?;
     let output = required(words, OUTPUT)?;
     let transaction = number_if_any(words, u64::MAX, optional(words, TRANSACTION)?)?;
     let block_size = number_if_any(words, u32::MAX as u64, optional(words, BLOCK_SIZE)?)?;
     let blocks = number_if_any(words, 1 << 40, optional(words, DATA_BLOCKS)?)?;
-    repair_with(input, output, transaction, block_size, blocks)
+    repair_with(shared, input, output, transaction, block_size, blocks)
 }
 
 /// A repair: with all three numbers of the superblock that is wanting, or none.
 fn repair_with(
+    shared: bool,
     input: Name,
     output: Name,
     transaction: Option<u64>,
@@ -193,13 +196,17 @@ fn repair_with(
     blocks: Option<u64>,
 ) -> Option<Request>
     requires size { IfSome block_size (λ size. size < 2 ^ 32) }
-    ensures asked { (words : List (List ℕ)) → read_as words result ≡ repair_with (word_of words input) (word_of words output) transaction block_size blocks }
+    ensures asked { (words : List (List ℕ)) → read_as words result ≡ repair_with shared (word_of words input) (word_of words output) transaction block_size blocks }
     ensures names { (number : ℕ) → IsName number input → IsName number output → IfSome blocks IsPoolSize → IfSome result (AreNames number) }
 {
     match transaction {
         None => match block_size {
             None => match blocks {
-                None => Some(Request::Repair { input, output }),
+                None => Some(Request::Repair {
+                    input,
+                    output,
+                    shared,
+                }),
                 Some(_) => None,
             },
             Some(_) => None,
@@ -211,6 +218,7 @@ fn repair_with(
                 Some(blocks) => Some(Request::Search {
                     input,
                     output,
+                    shared,
                     transaction,
                     block_size: block_size as u32,
                     blocks,
@@ -218,6 +226,23 @@ fn repair_with(
             },
         },
     }
+}
+
+/// What the words ask of a cache's repair.
+#[tactic(auto, unfolding(pd_answers::specs::Words::request_of))]
+fn read_repair_cache(words: &[String]) -> Option<Request>
+    requires { AreItems (map string_bytes words.now) }
+    ensures asked { read_as (map string_bytes words.now) result ≡ words_spec.request_of tools_spec.cache_repair_tool (items_in (map string_bytes words.now)) }
+    ensures names { IfSome result (AreNames (length words.now)) }
+{
+    let version = version_if_any(words, optional(words, VERSION)?)?;
+    let input = required(words, INPUT)?;
+    let output = required(words, OUTPUT)?;
+    Some(Request::RepairCache {
+        input,
+        output,
+        version,
+    })
 }
 
 /// The number up to `most` that a word is, if there is a word.

@@ -1,4 +1,4 @@
-use Rattle.std.proofs.Common.{◌≡◌, ◌<◌, ◌≤◌, ◌+◌, ◌^◌, arith}
+use Rattle.std.proofs.Common.{◌+◌, arith}
 use Rattle.pd_words.proofs.NumberLemmas.{none_below, one_above, one_below}
 use Rattle.pd_words.proofs.numbers.number_up_to.Goals as goal
 

@@ -1,4 +1,4 @@
-use Rattle.std.proofs.Common.{◌≡◌, ℕ, List, map, drop, string_bytes, Option, Some, None, ok_or, refl, sym, ap, ◌∙◌}
+use Rattle.std.proofs.Common.{◌≡◌, ℕ, List, map, drop, string_bytes, Option, Some, None, ok_or, refl, sym, ◌∙◌}
 use Rattle.pd_answers.specs.Words.{items_of, tool_of}
 use Rattle.pd_words.specs.declared.request.Request.{Request}
 use Rattle.pd_words.specs.declared.request.WordFault.{WordFault}
