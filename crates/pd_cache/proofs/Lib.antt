@@ -1,5 +1,3 @@
-pub mod RepeatLemmas
-pub mod AddedLemmas
 pub mod WordLemmas
 pub mod MeetLemmas
 pub mod WholeLemmas

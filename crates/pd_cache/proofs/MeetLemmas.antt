@@ -14,13 +14,13 @@ use Rattle.pd_graph.proofs.BitLemmas.{counts_none, counts_one}
 use Rattle.pd_whole.specs.Refs.{number_in}
 use Rattle.pd_arrays.specs.Reads.{number_where}
 use Rattle.pd_arrays.proofs.ReadLemmas.{in_role, where_fewer, where_more, where_zero}
-use Rattle.pd_cache.specs.declared.origin_set.OriginSet.{OriginSet}
+use Rattle.pd_origins.specs.declared.origin_set.OriginSet.{OriginSet}
 use Rattle.pd_cache.specs.declared.origins.Origins.{Origins}
-use Rattle.pd_cache.specs.OriginSet.{AreAdded}
+use Rattle.pd_origins.specs.OriginSet.{AreAdded, count_of}
 use Rattle.pd_cache.specs.Origins.{AddsBlock, is_again, places_of, seen_at}
-use Rattle.pd_cache.specs.Words.{block_origins, count_of, origins_in}
+use Rattle.pd_cache.specs.Words.{block_origins, origins_in}
 use Rattle.pd_cache.specs.Meeting.{AreMapBlocks, AreMet, IsFresh, IsMapBlock, IsPartMet, IsSeen, seen_number}
-use Rattle.pd_cache.proofs.RepeatLemmas.{count-append, count_by_repeat, count_here, repeat_behind, repeat_by_count}
+use Rattle.pd_origins.proofs.RepeatLemmas.{count-append, count_by_repeat, count_here, repeat_behind, repeat_by_count}
 
 module _ (words met : List ℕ) (again : Bool) (told : has_repeat words ≡ (again || has_repeat met))
     (kept : (x : ℕ) → 1 ≤ count_of x words → 1 ≤ count_of x met) (only : (x : ℕ) → count_of x met ≤ count_of x words) (added : List ℕ) where

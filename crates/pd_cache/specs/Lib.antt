@@ -1,6 +1,5 @@
 pub mod Copies
 pub mod Words
-pub mod OriginSet
 pub mod Origins
 pub mod Meeting
 pub mod Whole

@@ -11,9 +11,9 @@ use Rattle.pd_tree.specs.Cursor.{cursor_items}
 use Rattle.pd_tree.specs.Items.{root_of}
 use Rattle.pd_arrays.specs.Reads.{number_where}
 use Rattle.pd_cache.specs.declared.origins.Origins.{Origins}
-use Rattle.pd_cache.specs.OriginSet.{AreAdded}
+use Rattle.pd_origins.specs.OriginSet.{AreAdded, count_of}
 use Rattle.pd_cache.specs.Origins.{is_again, places_of, seen_at}
-use Rattle.pd_cache.specs.Words.{block_origins, count_of, origins_in}
+use Rattle.pd_cache.specs.Words.{block_origins, origins_in}
 
 -- a block that was met before: its origins are among those of the blocks, and whether it has any
 pub record IsSeen (image : List (List ℕ)) (blocks : List ℕ) (b : ℕ) (valid : Bool) : Type 0 where

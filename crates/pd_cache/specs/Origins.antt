@@ -1,7 +1,7 @@
 -- What is known of the origins of blocks that were met.
 use Rattle.std.specs.Prelude.{◌≡◌, ℕ, ◌==◌, nat_lt, if◌then◌else◌, Bool, List, ◌++◌, length, slice_index_or, Option, None, Some}
 use Rattle.pd_cache.specs.declared.origins.Origins.{Origins}
-use Rattle.pd_cache.specs.OriginSet.{AreAdded}
+use Rattle.pd_origins.specs.OriginSet.{AreAdded}
 
 -- of each block that was met whether it has a valid word, and whether such a block was met again
 abbrev pub seen_at : Origins → ℕ → Option Bool

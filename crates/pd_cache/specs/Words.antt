@@ -1,6 +1,5 @@
 -- The origins of the valid words of a mapping array.
-use Rattle.std.specs.Prelude.{ℕ, ◌/◌, ◌%◌, ◌==◌, if◌then◌else◌, Bool, List, [], ◌∷◌, map, filter, slice_index, Option, is_none}
-use Rattle.std.specs.Int.{bit_at}
+use Rattle.std.specs.Prelude.{ℕ, if◌then◌else◌, List, [], ◌∷◌, map, filter, Option, is_none}
 use Rattle.std.specs.List.{count_by, flat_map}
 use Rattle.pd_kinds.specs.Graph.{block_at}
 use Rattle.pd_kinds.specs.Trees.{block_words}
@@ -21,11 +20,3 @@ origins_in image blocks = flat_map (λ b. block_origins (block_at image b)) bloc
 -- how many blocks weren't met yet
 abbrev pub unseen_number : {X : Type 0} → List (Option X) → ℕ
 unseen_number seen = count_by is_none seen
-
--- how often a number comes
-abbrev pub count_of : ℕ → List ℕ → ℕ
-count_of x xs = count_by (λ y. y == x) xs
-
--- whether a number has a bit in words of 64 bits, which is set
-unfoldable pub is_set : List ℕ → ℕ → Bool
-is_set words number = bit_at (slice_index words (number / 64)) (number % 64) == 1

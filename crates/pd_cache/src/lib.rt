@@ -5,7 +5,6 @@ mod cache;
 mod check;
 mod format;
 mod mapping;
-mod origin_set;
 mod origins;
 mod room;
 mod whole;

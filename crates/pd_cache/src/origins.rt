@@ -1,13 +1,13 @@
 //! Whether two entries of a cache have one origin.
 
-ghost use Rattle.std.specs.Prelude.{◌≡◌, ℕ, ◌+◌, ◌*◌, ◌≤◌, ◌<◌, List, ◌++◌, [], length, None, false, IfOk, replicate, vec_len, vec_capacity};
+ghost use Rattle.std.specs.Prelude.{◌≡◌, ℕ, ◌+◌, ◌*◌, ◌≤◌, ◌<◌, List, ◌++◌, [], length, None, false, IfOk, replicate};
 ghost use Rattle.pd_kinds.specs.Whole.{has_repeat};
-ghost use Rattle.pd_cache.specs.OriginSet.{AreAdded};
+ghost use Rattle.pd_origins.specs.OriginSet.{AreAdded, others_number, others_room};
 ghost use Rattle.pd_cache.specs.Words.{block_origins, unseen_number, word_origins};
 
-use crate::origin_set::OriginSet;
 use pd_array::{Word, array_len, array_word};
 use pd_kinds::Block;
+use pd_origins::OriginSet;
 use std::alloc::{AllocError, Global};
 
 /// How many words a block of the mapping array has room for.
@@ -28,7 +28,7 @@ pub(crate) struct Origins {
     seen: Vec<Option<bool>>,
     /// Whether a block that has a valid word was met again.
     again: bool,
-    ghost room: { vec_len met.others + 509 * unseen_number seen.items ≤ vec_capacity met.others },
+    ghost room: { others_number met + 509 * unseen_number seen.items ≤ others_room met },
 }
 
 impl Origins {
@@ -103,11 +103,11 @@ fn unseen(alloc: Global, nr: usize) -> Result<Vec<Option<bool>>, AllocError>
 
 /// Adds the origin of a word, where the word is valid, and answers how many that are.
 fn add_word(met: &mut OriginSet, word: u64) -> usize
-    requires { vec_len met.old.others < vec_capacity met.old.others }
+    requires { others_number met.old < others_room met.old }
     ensures number { result ≡ length (word_origins word) }
     ensures added { (os : List ℕ) → AreAdded os met.old → AreAdded (os ++ word_origins word) met.new }
-    ensures few { vec_len met.new.others ≤ vec_len met.old.others + 1 }
-    ensures room { vec_capacity met.old.others ≤ vec_capacity met.new.others }
+    ensures few { others_number met.new ≤ others_number met.old + 1 }
+    ensures room { others_room met.old ≤ others_room met.new }
 {
     if word % 2 == 1 {
         met.add(word >> 16);
@@ -119,11 +119,11 @@ fn add_word(met: &mut OriginSet, word: u64) -> usize
 
 /// Adds the origins of the valid words of a block, and answers how many these are.
 fn add_words(met: &mut OriginSet, block: &Block) -> usize
-    requires { vec_len met.old.others + 509 ≤ vec_capacity met.old.others }
+    requires { others_number met.old + 509 ≤ others_room met.old }
     ensures number { result ≡ length (block_origins block.now.0) }
     ensures added { (os : List ℕ) → AreAdded os met.old → AreAdded (os ++ block_origins block.now.0) met.new }
-    ensures few { vec_len met.new.others ≤ vec_len met.old.others + 509 }
-    ensures room { vec_capacity met.old.others ≤ vec_capacity met.new.others }
+    ensures few { others_number met.new ≤ others_number met.old + 509 }
+    ensures room { others_room met.old ≤ others_room met.new }
 {
     let mut number = 0;
     for i in 0..array_len(block, Word::Eight) {

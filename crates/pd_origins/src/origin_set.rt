@@ -4,8 +4,7 @@ ghost use Rattle.std.specs.Prelude.{◌≡◌, ℕ, ◌+◌, ◌/◌, ◌<◌, �
 ghost use Rattle.std.specs.List.{list_any};
 ghost use Rattle.std.specs.List.Sorted.{IsNonDecreasing};
 ghost use Rattle.pd_kinds.specs.Whole.{has_repeat};
-ghost use Rattle.pd_cache.specs.OriginSet.{AreAdded};
-ghost use Rattle.pd_cache.specs.Words.{is_set};
+ghost use Rattle.pd_origins.specs.OriginSet.{AreAdded, is_set, others_number, others_room};
 
 use std::alloc::{AllocError, Global};
 
@@ -17,7 +16,7 @@ const FIRST_WORDS: usize = 8192;
 
 /// Origins that were added. The low ones have a bit each; the others are kept one by one, and sorted at the end.
 #[derive(Drop)]
-pub(crate) struct OriginSet {
+pub struct OriginSet {
     /// The bits of the origins from 0 on, 64 in a word: whether the origin was added since it has a bit.
     bits: Vec<u64>,
     /// The origins that had no bit when they were added.
@@ -33,10 +32,10 @@ pub(crate) struct OriginSet {
 impl OriginSet {
     /// No origin, with memory for so many words of bits, none of which there is yet, and for so many origins without a
     /// bit. Want of it is the only error.
-    pub(crate) fn new(alloc: Global, words: usize, others: usize) -> Result<OriginSet, AllocError>
+    pub fn new(alloc: Global, words: usize, others: usize) -> Result<OriginSet, AllocError>
         ensures added { IfOk result (AreAdded []) }
-        ensures none { IfOk result (λ set. vec_len set.others ≡ 0) }
-        ensures room { IfOk result (λ set. vec_capacity set.others ≡ others) }
+        ensures none { IfOk result (λ set. others_number set ≡ 0) }
+        ensures room { IfOk result (λ set. others_room set ≡ others) }
     {
         let bits = Vec::with_capacity(alloc, words)?;
         let others = Vec::with_capacity(alloc, others)?;
@@ -50,11 +49,11 @@ impl OriginSet {
     }
 
     /// Adds an origin, for which there is room.
-    pub(crate) fn add(&mut self, origin: u64)
-        requires { vec_len self.old.others < vec_capacity self.old.others }
+    pub fn add(&mut self, origin: u64)
+        requires { others_number self.old < others_room self.old }
         ensures added { (os : List ℕ) → AreAdded os self.old → AreAdded (os ++ origin ∷ []) self.new }
-        ensures few { vec_len self.new.others ≤ vec_len self.old.others + 1 }
-        ensures room { vec_capacity self.old.others ≤ vec_capacity self.new.others }
+        ensures few { others_number self.new ≤ others_number self.old + 1 }
+        ensures room { others_room self.old ≤ others_room self.new }
     {
         if origin / WORD_BITS < self.bits.len() as u64 {
             let was_set = set_bit(&mut self.bits, origin);
@@ -66,25 +65,35 @@ impl OriginSet {
 
     /// Tells that so many origins were added. Where one of them had no bit, the next ones have more words of bits, as far
     /// as there is memory for them: a word for each origin that had a bit, so that bits pay.
-    pub(crate) fn widen(&mut self, added: usize)
+    pub fn widen(&mut self, added: usize)
         ensures added { (os : List ℕ) → AreAdded os self.old → AreAdded os self.new }
-        ensures few { vec_len self.new.others ≡ vec_len self.old.others }
-        ensures room { vec_capacity self.new.others ≡ vec_capacity self.old.others }
+        ensures few { others_number self.new ≡ others_number self.old }
+        ensures room { others_room self.new ≡ others_room self.old }
     {
         let before = self.listed;
         self.added = self.added.saturating_add(added);
         self.listed = self.others.len();
         if before < self.listed {
             let had_bits = self.added.saturating_sub(self.listed);
-            lengthen(&mut self.bits, had_bits.saturating_add(FIRST_WORDS));
+            self.give_bits(had_bits.saturating_add(FIRST_WORDS));
         }
     }
 
+    /// Gives the origins below 64 times this number a bit each, as far as there is memory for them, when they are added
+    /// from then on.
+    pub fn give_bits(&mut self, words: usize)
+        ensures added { (os : List ℕ) → AreAdded os self.old → AreAdded os self.new }
+        ensures few { others_number self.new ≡ others_number self.old }
+        ensures room { others_room self.new ≡ others_room self.old }
+    {
+        lengthen(&mut self.bits, words);
+    }
+
     /// Whether an origin was added twice. Those without a bit are sorted for it.
-    pub(crate) fn has_repeat(&mut self) -> bool
+    pub fn has_repeat(&mut self) -> bool
         ensures repeat { (os : List ℕ) → AreAdded os self.old → result ≡ has_repeat os }
-        ensures few { vec_len self.new.others ≡ vec_len self.old.others }
-        ensures room { vec_capacity self.old.others ≤ vec_capacity self.new.others }
+        ensures few { others_number self.new ≡ others_number self.old }
+        ensures room { others_room self.old ≤ others_room self.new }
     {
         let mixed = is_any_set(&self.bits, &self.others);
         self.others.sort_unstable();
@@ -114,7 +123,7 @@ fn add_other(others: &mut Vec<u64>, origin: u64)
 }
 
 /// Sets the bit of a number, and answers whether it was set before.
-#[tactic(auto, unfolding(crate::specs::Words::is_set))]
+#[tactic(auto, unfolding(crate::specs::OriginSet::is_set))]
 fn set_bit(bits: &mut Vec<u64>, number: u64) -> bool
     requires { number / 64 < vec_len bits.old }
     ensures was { result ≡ is_set bits.old.items number }
@@ -128,7 +137,7 @@ fn set_bit(bits: &mut Vec<u64>, number: u64) -> bool
 }
 
 /// Whether a number has a bit, which is set.
-#[tactic(auto, unfolding(crate::specs::Words::is_set))]
+#[tactic(auto, unfolding(crate::specs::OriginSet::is_set))]
 fn has_set_bit(bits: &[u64], number: u64) -> bool
     ensures { result ≡ is_set bits.now number }
 {

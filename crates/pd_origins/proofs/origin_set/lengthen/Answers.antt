@@ -1,6 +1,6 @@
 use Rattle.std.proofs.Common.{is_ok, arith}
-use Rattle.pd_cache.proofs.AddedLemmas.{is_set-resized}
-use Rattle.pd_cache.proofs.origin_set.lengthen.Goals as goal
+use Rattle.pd_origins.proofs.AddedLemmas.{is_set-resized}
+use Rattle.pd_origins.proofs.origin_set.lengthen.Goals as goal
 
 pub returns-then-len-words : goal.returns-then-len-words
 returns-then-len-words c =

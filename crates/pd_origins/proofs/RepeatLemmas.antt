@@ -7,7 +7,7 @@ use Rattle.std.proofs.lemmas.List.Sorted.{sum_by-IsPermutation}
 use Rattle.std.proofs.lemmas.List.Sums.{sum_by-append, sum_by-cons}
 use Rattle.pd_kinds.specs.Whole.{has_repeat}
 use Rattle.pd_graph.proofs.AnyLemmas.{same_test}
-use Rattle.pd_cache.specs.Words.{count_of}
+use Rattle.pd_origins.specs.OriginSet.{count_of}
 
 pub count-append : (x : ℕ) (xs ys : List ℕ) → count_of x (xs ++ ys) ≡ count_of x xs + count_of x ys
 count-append x xs ys = sum_by-append (λ y. cond (nat_eq y x) 1 0) xs ys

@@ -1,6 +1,6 @@
 use Rattle.std.proofs.Common.{◌≡◌, ◌+◌, ◌-◌, get_or, sym, ap, ◌∙◌, arith}
-use Rattle.pd_cache.proofs.RepeatLemmas.{no_neighbours, repeat_at}
-use Rattle.pd_cache.proofs.origin_set.is_repeated.Goals as goal
+use Rattle.pd_origins.proofs.RepeatLemmas.{no_neighbours, repeat_at}
+use Rattle.pd_origins.proofs.origin_set.is_repeated.Goals as goal
 
 pub returns-then-sorted-i : goal.returns-then-sorted-i
 returns-then-sorted-i c =

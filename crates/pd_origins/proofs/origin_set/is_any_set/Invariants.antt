@@ -1,7 +1,7 @@
 use Rattle.std.proofs.Common.{◌≡◌, take}
 use Rattle.std.specs.List.{list_any}
-use Rattle.pd_cache.specs.Words.{is_set}
-use Rattle.pd_cache.proofs.origin_set.is_any_set.Given as goal
+use Rattle.pd_origins.specs.OriginSet.{is_set}
+use Rattle.pd_origins.proofs.origin_set.is_any_set.Given as goal
 
 -- the numbers before this one were looked at
 abbrev pub invariant-loop-i : goal.invariant-loop-i

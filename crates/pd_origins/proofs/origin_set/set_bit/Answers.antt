@@ -1,8 +1,8 @@
 use Rattle.std.proofs.Common.{ℕ, ◌*◌, ◌/◌, ◌%◌, ◌^◌, set, bit_or, ap, ◌∙◌, arith}
 use Rattle.std.proofs.lemmas.List.{get_or_read_under}
-use Rattle.pd_cache.specs.Words.{is_set}
-use Rattle.pd_cache.proofs.AddedLemmas.{is_set-more}
-use Rattle.pd_cache.proofs.origin_set.set_bit.Goals as goal
+use Rattle.pd_origins.specs.OriginSet.{is_set}
+use Rattle.pd_origins.proofs.AddedLemmas.{is_set-more}
+use Rattle.pd_origins.proofs.origin_set.set_bit.Goals as goal
 
 pub returns-clause-sets : goal.returns-clause-sets
 returns-clause-sets c = λ other.

@@ -2,10 +2,9 @@ use Rattle.std.proofs.Common.{Bool, false, refl, sym, ap, ◌∙◌, subst, ◌+
 use Rattle.std.proofs.Math.Bool.{or-false}
 use Rattle.std.proofs.lemmas.Bool.{both_ways}
 use Rattle.pd_graph.proofs.BitLemmas.{counts_one}
-use Rattle.pd_cache.specs.OriginSet.{AreCounted, times}
-use Rattle.pd_cache.specs.Words.{count_of, is_set}
-use Rattle.pd_cache.proofs.AddedLemmas.{bit_more, count_one, counted_more}
-use Rattle.pd_cache.proofs.origin_set.OriginSet.add.Goals as goal
+use Rattle.pd_origins.specs.OriginSet.{AreCounted, count_of, is_set, times}
+use Rattle.pd_origins.proofs.AddedLemmas.{bit_more, count_one, counted_more}
+use Rattle.pd_origins.proofs.origin_set.OriginSet.add.Goals as goal
 
 pub returns-then-origin-len-clause-added : goal.returns-then-origin-len-clause-added
 returns-then-origin-len-clause-added c = λ os before.

@@ -9,9 +9,8 @@ use Rattle.std.proofs.lemmas.List.{get_or_past, get_or_append_left, get_or-appen
 use Rattle.pd_kinds.specs.Whole.{has_repeat}
 use Rattle.pd_graph.proofs.AnyLemmas.{same_test}
 use Rattle.pd_graph.proofs.BitLemmas.{counts_none, counts_one, differ}
-use Rattle.pd_cache.specs.OriginSet.{AreCounted}
-use Rattle.pd_cache.specs.Words.{count_of, is_set}
-use Rattle.pd_cache.proofs.RepeatLemmas.{count-append, count_by_repeat, count_here, count_there, repeat_behind, repeat_by_count}
+use Rattle.pd_origins.specs.OriginSet.{AreCounted, count_of, is_set}
+use Rattle.pd_origins.proofs.RepeatLemmas.{count-append, count_by_repeat, count_here, count_there, repeat_behind, repeat_by_count}
 
 -- the bit of a number in the words
 pub is_set-parts : (words : List ℕ) (x : ℕ) → is_set words x ≡ nat_eq (bit_at (get_or words (x / 64) 0) (x % 64)) 1

@@ -3,10 +3,10 @@ use Rattle.std.specs.List.{list_any}
 use Rattle.std.specs.List.Sorted.{IsNonDecreasing}
 use Rattle.std.proofs.lemmas.List.Sorted.{IsNonDecreasingBy-from_sort}
 use Rattle.pd_kinds.specs.Whole.{has_repeat}
-use Rattle.pd_cache.specs.Words.{is_set}
-use Rattle.pd_cache.proofs.AddedLemmas.{counted_repeat}
-use Rattle.pd_cache.proofs.RepeatLemmas.{repeat_in_any_order}
-use Rattle.pd_cache.proofs.origin_set.OriginSet.has_repeat.Goals as goal
+use Rattle.pd_origins.specs.OriginSet.{is_set}
+use Rattle.pd_origins.proofs.AddedLemmas.{counted_repeat}
+use Rattle.pd_origins.proofs.RepeatLemmas.{repeat_in_any_order}
+use Rattle.pd_origins.proofs.origin_set.OriginSet.has_repeat.Goals as goal
 
 pub is_repeated-repeated-requires : goal.is_repeated-repeated-requires
 is_repeated-repeated-requires c =

@@ -1,0 +1,6 @@
+//! Whether two origins of a cache are the same.
+#![tactic(auto)]
+
+mod origin_set;
+
+pub use origin_set::OriginSet;
