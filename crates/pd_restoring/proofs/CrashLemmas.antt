@@ -1,5 +1,5 @@
 -- A restore, from the closing of block 0 on.
-use Rattle.std.proofs.Common.{◌≡◌, inl, ℕ, List, subst, ◌∙◌, ap, Option, Some, set}
+use Rattle.std.proofs.Common.{◌≡◌, inl, ℕ, List, subst, ◌∙◌, ap, Option, Some, Ok, set}
 use Rattle.std.specs.Prelude.{IfSome}
 use Rattle.pd_image.proofs.CrashLemmas.{at_some}
 use Rattle.pd_kinds.specs.declared.block.Block.{Block}
@@ -10,6 +10,7 @@ use Rattle.pd_draft.specs.Closed.{StaysClosed}
 use Rattle.pd_draft.specs.Placed.{DraftState, Wrote, placed}
 use Rattle.pd_draft.proofs.DraftLemmas.{zeros_none}
 use Rattle.pd_laid.specs.Laid.{Laid, written_from}
+use Rattle.pd_restoring.specs.Making.{Lays, LaysOver}
 use Rattle.pd_restoring.specs.Subject.{Subject}
 use Rattle.pd_restoring.specs.Whole.{made_of, Writes, Commits, CommitsSynced}
 
@@ -44,6 +45,19 @@ unfolding made_of
 synced {a} {b} {c} laid super_block begin is wrote done image held =
     let behind = written_from 1 laid.blocks in
     rw is at (at_some b.device.held (λ (i : Image). HoldsSynced (set i 0 super_block) c) (placed image 1 behind) (held_then behind image begin wrote held) done)
+
+-- something laid was written, and is committed
+module _ (laid : Laid) {a b : DraftState} {old new : DeviceState} (super_block : List ℕ) (same : a.device ≡ old) (begin : a.place ≡ 1) (is : super_block ≡ laid.super_block)
+    (wrote : Wrote (written_from 1 laid.blocks) a b) (last : (image : Image) → b.device.held ≡ Some image → LeavesOnly (IsNoneOrNew (set image 0 super_block)) b.device new) where
+  pub lays_over : LaysOver laid old new
+  lays_over = subst (λ (d : DeviceState). LaysOver laid d new) same (committed {a = a} {b = b} {c = new} laid super_block begin is wrote last)
+
+  pub lays : IfSome b.device.held (λ image. HoldsSynced (set image 0 super_block) new) → Lays laid (Ok tt) old new
+  lays done = (
+    lays_over,
+    subst (λ (d : DeviceState). (image : Image) → d.held ≡ Some image → HoldsSynced (made_of laid image) new) same
+        (synced {a = a} {b = b} {c = new} laid super_block begin is wrote done),
+  )
 
 -- what was written and is committed
 module _ {L M : Type 0} (k : Subject L M) (room : ℕ) (IsOf : List ℕ → Type 0) (left : Option (List ℕ)) {a b : DraftState} {old new : DeviceState} {block : Block} (same : a.device ≡ old) (begin : a.place ≡ 1)

@@ -4,4 +4,7 @@ pub mod BeginLemmas
 pub mod MadeLemmas
 pub mod NeedLemmas
 pub mod CrashLemmas
+pub mod ClosedLemmas
 pub mod RestoreLemmas
+pub mod EndingLemmas
+pub mod MakingLemmas

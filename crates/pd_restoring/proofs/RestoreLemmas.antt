@@ -1,22 +1,18 @@
 -- A restore, put together from its first two lines, the closing of block 0 and the rest.
-use Rattle.std.proofs.Common.{◌≡◌, ◌⊎◌, inl, inr, ⊎_elim, ℕ, ◌<◌, ◌≤◌, Bool, true, set, List, [], ◌∷◌, length, Option, Some, None, IfSome, Result, Ok, Err, refl, sym, ap, ◌∙◌, subst, arith}
+use Rattle.std.proofs.Common.{◌≡◌, ◌⊎◌, inl, inr, ℕ, ◌<◌, ◌≤◌, Bool, true, set, List, [], ◌∷◌, length, Option, Some, None, IfSome, Result, Ok, Err, refl, sym, ap, ◌∙◌, arith}
 use Rattle.std.specs.Prelude.{MatchResult, nat_lt, IfErr, is_some}
 use Rattle.std.specs.Option.{option_map_or}
 use Rattle.std.proofs.lemmas.Bool.{both_ways, le-ltb}
-use Rattle.std.proofs.lemmas.Option.{IfSome_then, same_Some}
 use Rattle.pd_kinds.specs.Crash.{HasNoSuper, HoldsOldOrNone, HoldsSynced, IsOldNoneOrMade, IsOldOrNone, LeavesOnly}
 use Rattle.pd_kinds.specs.Field.{zeros}
 use Rattle.pd_kinds.specs.Limits.{room_of}
 use Rattle.pd_kinds.specs.Moments.{present_moment}
 use Rattle.pd_kinds.specs.Objects.{DeviceState, SourceState}
-use Rattle.pd_kinds.proofs.CrashLemmas.{and_then, weaken, stays, still_tells, left_now, left_synced, left_held}
-use Rattle.pd_image.proofs.CrashLemmas.{at_some}
+use Rattle.pd_kinds.proofs.CrashLemmas.{stays, still_tells, left_now, left_synced}
 use Rattle.pd_draft.specs.Closed.{StaysClosed}
-use Rattle.pd_draft.proofs.DraftLemmas.{zeros_none}
 use Rattle.pd_grammar.specs.Texts as Texts
 use Rattle.pd_grammar.specs.Spelling.{Verdict, accepted, refused, no_room, need_above_room}
 use Rattle.pd_spells.specs.Early.{is_decided_early}
-use Rattle.pd_laid.specs.Laid.{IsLaid, laid_number}
 use Rattle.pd_laid.specs.Made.{Makes}
 use Rattle.pd_restoring.specs.declared.fault.RestoreFault.{RestoreFault}
 use Rattle.pd_restoring.specs.declared.fault.RestoreFault.TheVariants as r
@@ -24,8 +20,8 @@ use Rattle.pd_restoring.specs.Begin.{BeginsOf, BeginsWith, BlamesSource}
 use Rattle.pd_restoring.specs.Reading.{IsOfLater, SaysOf}
 use Rattle.pd_restoring.specs.Restored.{AnswersFault, IsOfFirstLines, IsOfOthers}
 use Rattle.pd_restoring.specs.Subject.{Subject, IsVerdictOf, HasVerdicts}
-use Rattle.pd_restoring.specs.Whole.{made_of, Commits, CommitsSynced, Tries, ShutBy, Restores}
-use Rattle.pd_restoring.proofs.MadeLemmas.{made_of_closed}
+use Rattle.pd_restoring.specs.Whole.{Commits, CommitsSynced, Tries, ShutBy, Restores}
+use Rattle.pd_restoring.proofs.ClosedLemmas.{closed_crash, closed_kept, laid_crash, laid_synced, older, where_told}
 use Rattle.pd_restoring.proofs.ReadingLemmas.{above_here}
 
 abbrev Image : Type 0
@@ -39,10 +35,6 @@ at_text : (left : Option (List ℕ)) (P : List ℕ → Type 0) → P (text_in le
 unfolding text_in
 at_text None P is = tt
 at_text (Some text) P is = is
-
-where_told : {X : Type 0} (left : Option X) (P : X → Type 0) → ((t : X) → left ≡ Some t → P t) → IfSome left P
-where_told None P told = tt
-where_told (Some text) P told = told text refl
 
 both_told : (left : Option (List ℕ)) (P Q : List ℕ → Type 0) → IfSome left P → IfSome left Q → IfSome left (λ t. P t × Q t)
 both_told None P Q p q = tt
@@ -80,10 +72,6 @@ silent_answer r.Source v is = tt
 silent_answer r.Device v is = tt
 silent_answer (r.Text fault) v is = absurd is
 silent_answer (r.NoRoom need blocks) v is = absurd is
-
--- what is said of an old image and no superblock
-abbrev older : {image : Image} {Made : Image → Type 0} {a b : DeviceState} → LeavesOnly (IsOldOrNone image) a b → LeavesOnly (IsOldNoneOrMade image Made) a b
-older first = weaken first (λ left firsts outcome chance. ⊎_elim (λ old. inl old) (λ none. inr (inl none)) (outcome chance))
 
 module _ {L M : Type 0} (k : Subject L M) where
   -- whether the first two lines decide
@@ -200,31 +188,14 @@ module _ {L M : Type 0} (k : Subject L M) where
 
       module _ (first : (image : Image) → HoldsSynced image old → LeavesOnly (IsOldOrNone image) old mid)
           (content : IfSome old.held (λ image. mid.held ≡ Some (set image 0 zeros))) (measured : IfSome old.held (λ image. length image ≡ old.blocks)) where
-        -- block 0 stayed closed
-        closed_crash : StaysClosed mid new → (Made : Image → Image → Type 0) → (image : Image) → HoldsSynced image old → LeavesOnly (IsOldNoneOrMade image (Made image)) old new
-        closed_crash stays Made image synced =
-            and_then (older (first image synced)) (weaken stays.crash (λ left firsts zeroed chance. inr (inl (zeros_none left firsts zeroed))))
-
-        closed_kept : StaysClosed mid new → HoldsOldOrNone old new
-        closed_kept stays =
-            IfSome_then old.held measured (λ image number.
-            where_told new.held (λ now. (now ≡ image) ⊎ HasNoSuper now) (λ now is. inr (zeros_none now new.history.firsts (stays.crash.now now new.history.firsts (left_held new now is)))))
-
-        closed_at : (image : Image) → old.held ≡ Some image → mid.held ≡ Some (set image 0 zeros)
-        closed_at image held = at_some old.held (λ (i : Image). mid.held ≡ Some (set i 0 zeros)) image held content
-
-        -- what is made is laid
-        made_laid : (m : M) → laid_number (k.laid m room) ≤ room → (image made : Image) → old.held ≡ Some image → made ≡ made_of (k.laid m room) (set image 0 zeros)
-            → IsLaid (k.laid m room) image made
-        made_laid m enough image made held is =
-            let number : length image ≡ old.blocks = at_some old.held (λ (i : Image). length i ≡ old.blocks) image held measured in
-            rw is (made_of_closed (k.laid m room) image zeros (omega arith))
+        -- block 0 stayed closed, or all was written and then the superblock
+        stays_closed : StaysClosed mid new → (Made : Image → Image → Type 0) → (image : Image) → HoldsSynced image old → LeavesOnly (IsOldNoneOrMade image (Made image)) old new
+        stays_closed stays Made image synced = closed_crash old mid new first content measured stays Made image synced
 
         commit_crash : {left : Option (List ℕ)} → (done : Commits k room IsOf left mid new) → (image : Image) → HoldsSynced image old
             → LeavesOnly (IsOldNoneOrMade image (Makes k.laid room (accepted done.meaning) image)) old new
         commit_crash done image synced =
-            and_then (older (first image synced)) (weaken (done.crash (set image 0 zeros) (closed_at image synced.held))
-            (λ left firsts outcome chance. ⊎_elim (λ none. inr (inl none)) (λ made. inr (inr (made_laid done.meaning done.fits image left synced.held made))) (outcome chance)))
+            let number = done.fits in laid_crash old mid new first content measured (k.laid done.meaning room) (omega arith) done.crash image synced
 
         -- all was committed
         begun_done : CommitsSynced k room IsOf to.left mid new → Restores k (Ok tt) from to old new
@@ -235,28 +206,19 @@ module _ {L M : Type 0} (k : Subject L M) where
               right = right_of (accepted m) (where_told from.left (λ t. IsVerdictOf k t room (accepted m)) (λ t is. (done.commits.told t (told t is)).0));
               answer = done.commits.lawful;
               crash = λ image synced. commit_crash done.commits image synced;
-              made = where_told old.held (λ image. IfSome new.held (λ now. Makes k.laid room (accepted m) image now × HoldsSynced now new)) (λ image held.
-                  let s = done.done (set image 0 zeros) (closed_at image held) in
-                  at_made new.held (λ (made : Image). IsLaid (k.laid m room) image made) (made_of (k.laid m room) (set image 0 zeros)) s s.held
-                  (λ made is. made_laid m done.commits.fits image made held is));
+              made = let number = done.commits.fits in laid_synced old mid new first content measured (k.laid m room) (omega arith) done.done;
               told = still_tells old new as_told;
               kept = tt;
               first_lines = tt;
               untouched = λ e. absurd (not_early e);
               ended = where_told from.left (λ t. to.left ≡ Some []) (λ t is. (done.commits.told t (told t is)).1);
             }
-          where
-            at_made : (o : Option Image) (P : Image → Type 0) (image : Image) → HoldsSynced image new → o ≡ Some image → ((made : Image) → made ≡ image → P made)
-                → IfSome o (λ now. P now × HoldsSynced now new)
-            at_made None P image s is laid = tt
-            at_made (Some now) P image s is laid =
-                let same : now ≡ image = same_Some now image is in (laid now same, subst (λ (j : Image). HoldsSynced j new) (sym same) s)
 
         silent_closed : HasVerdicts k → (fault : RestoreFault) → IsSilent fault → IsOfLater fault → StaysClosed mid new → Restores k (Err fault) from to old new
         silent_closed verdicts fault silent later stays =
             let found = verdicts (text_in from.left) room in
             begun_fault fault found.0 (at_text from.left (λ t. IsVerdictOf k t room found.0) found.1) (silent_answer fault found.0 silent)
-            (closed_crash stays (Makes k.laid room found.0)) (λ _. closed_kept stays) later
+            (stays_closed stays (Makes k.laid room found.0)) (λ _. closed_kept old mid new first content measured stays) later
 
         -- it wasn't
         begun_failed : HasVerdicts k → (fault : RestoreFault) → Tries k room IsOf to.left mid new → ShutBy fault mid new
@@ -271,10 +233,10 @@ module _ {L M : Type 0} (k : Subject L M) where
         begun_failed verdicts (r.Text fault) tries shut says later =
             let why : Texts.Refusal = record { line = fault.line; cause = fault.cause } in
             begun_fault (r.Text fault) (refused why) (where_told from.left (λ t. IsVerdictOf k t room (refused why)) (λ t is. says t is)) refl
-            (closed_crash shut (Makes k.laid room (refused why))) (λ _. closed_kept shut) later
+            (stays_closed shut (Makes k.laid room (refused why))) (λ _. closed_kept old mid new first content measured shut) later
         begun_failed verdicts (r.NoRoom needed blocks) tries shut says later =
             begun_fault (r.NoRoom needed blocks) (no_room needed blocks) (where_told from.left (λ t. IsVerdictOf k t room (no_room needed blocks)) (λ t is. says t is)) (refl, refl)
-            (closed_crash shut (Makes k.laid room (no_room needed blocks))) (λ _. closed_kept shut) tt
+            (stays_closed shut (Makes k.laid room (no_room needed blocks))) (λ _. closed_kept old mid new first content measured shut) tt
 
         -- by the result
         pub begun_result : HasVerdicts k → (result : Result (Unit {0}) RestoreFault)

@@ -4,3 +4,5 @@ pub mod Restored
 pub mod Reading
 pub mod Begin
 pub mod Whole
+pub mod Made
+pub mod Making

@@ -2,11 +2,13 @@
 #![tactic(auto)]
 
 mod fault;
+mod made;
 mod own_map;
 mod restoring;
 mod whole;
 
 pub use fault::{RestoreFault, of_build, of_read};
+pub use made::MadeFault;
 pub use own_map::write_own_map;
 pub use restoring::Restoring;
 pub use whole::{restore, restore_begun};
