@@ -34,7 +34,7 @@ joined a b c high (x ∷ xs) ys before apart within first last =
     (first.0, omega arith, joined (x.key + 1) b c high xs ys (omega arith) apart within first.2 last)
 
 -- keys ascend in an undamaged node
-order_holds : (size place : ℕ) (block : List ℕ) → is_damaged size place block ≡ false → KeysAscend size block
+pub order_holds : (size place : ℕ) (block : List ℕ) → is_damaged size place block ≡ false → KeysAscend size block
 unfolding is_damaged node_bad node_tests
 order_holds size place block sound =
     keys_say size block
@@ -42,7 +42,7 @@ order_holds size place block sound =
     (tests_after_one _ _ (node_tests size place block) (none_broken (node_bad size place block) sound)).0)
 
 module _ (size : ℕ) (block : List ℕ) (ordered : KeysAscend size block) where
-  abbrev count : ℕ
+  abbrev pub count : ℕ
   count = entry_count size block
 
   next_key : (i : ℕ) → i + 1 < count → key_at block i < key_at block (i + 1)
@@ -50,13 +50,13 @@ module _ (size : ℕ) (block : List ℕ) (ordered : KeysAscend size block) where
   next_key i within = ordered i (i + 1) (omega arith) within
 
   -- the entries of a leaf that are in a range, from one on
-  abbrev entry : ℕ → Entry
+  abbrev pub entry : ℕ → Entry
   entry i = record { key = key_at block i; value = value_at size block i }
 
-  abbrev kept : ℕ → ℕ → List Entry → List Entry
+  abbrev pub kept : ℕ → ℕ → List Entry → List Entry
   kept low high es = filter (λ (e : Entry). not (nat_lt e.key low) && nat_lt e.key high) es
 
-  leaf_from : (low high least i n : ℕ) → i + n ≡ count → (1 ≤ n → least ≤ key_at block i) → AreAscending (max least low) high (kept low high (map entry (range_with_len i n)))
+  pub leaf_from : (low high least i n : ℕ) → i + n ≡ count → (1 ≤ n → least ≤ key_at block i) → AreAscending (max least low) high (kept low high (map entry (range_with_len i n)))
   leaf_from low high least i zero whole from = tt
   leaf_from low high least i (suc n) whole from =
       let here = from (omega arith) in

@@ -26,31 +26,31 @@ pub none_left : {X : Type 0} (key least : ℕ) (items : List (ℕ × X)) → key
 none_left {X} key least items less = none_from key least (ascending_from least items) (ascending_keys least least items (omega arith)) less
 
 -- a key that was read
-pub found_here : (id key : ℕ) (details : Details) (left : List (ℕ × Details)) → key ≡ id → IsFound id (Some details) ((key, details) ∷ left) ((key, details) ∷ left)
+pub found_here : {X : Type 0} (id key : ℕ) (value : X) (left : List (ℕ × X)) → key ≡ id → IsFound id (Some value) ((key, value) ∷ left) ((key, value) ∷ left)
 unfolding lookup
-found_here id key details left is =
+found_here {X} id key value left is =
     record { here = rw (eq-eqb key id is) refl; later = λ other after. refl }
 
 -- a key past the wanted one
-pub found_past : (id key least : ℕ) (details : Details) (items : List (ℕ × Details)) → id < key → least ≡ key + 1
-    → IsFound id None ((key, details) ∷ ascending_from least items) ((key, details) ∷ ascending_from least items)
-found_past id key least details items past is =
-    let none = lookup_other id (key, details) (ascending_from least items) (λ equal. let so : key ≡ id = equal in omega arith) ∙ none_left id least items (omega arith) in
+pub found_past : {X : Type 0} (id key least : ℕ) (value : X) (items : List (ℕ × X)) → id < key → least ≡ key + 1
+    → IsFound {X = X} id None ((key, value) ∷ ascending_from least items) ((key, value) ∷ ascending_from least items)
+found_past {X} id key least value items past is =
+    let none = lookup_other id (key, value) (ascending_from least items) (λ equal. let so : key ≡ id = equal in omega arith) ∙ none_left id least items (omega arith) in
     record { here = sym none; later = λ other after. refl }
 
 -- an entry with a lesser key is passed
-pub finds_later : (id key : ℕ) (details : Details) (left : List (ℕ × Details)) → key < id → FindsSame id ((key, details) ∷ left) left
-finds_later id key details left less other after =
-    sym (lookup_other other (key, details) left (λ equal. let so : key ≡ other = equal in omega arith))
+pub finds_later : {X : Type 0} (id key : ℕ) (value : X) (left : List (ℕ × X)) → key < id → FindsSame id ((key, value) ∷ left) left
+finds_later {X} id key value left less other after =
+    sym (lookup_other other (key, value) left (λ equal. let so : key ≡ other = equal in omega arith))
 
 -- the end
-pub found_none : (id : ℕ) (start old new : List (ℕ × Details)) → FindsSame id start old → (old ≡ []) × (new ≡ []) → IsFound id None start new
+pub found_none : {X : Type 0} (id : ℕ) (start old new : List (ℕ × X)) → FindsSame id start old → (old ≡ []) × (new ≡ []) → IsFound {X = X} id None start new
 unfolding lookup
-found_none id start old new same none =
+found_none {X} id start old new same none =
     record { here = sym (ap (lookup id) none.0) ∙ same id (omega arith); later = λ key after. rw none.1 (sym (ap (lookup key) none.0) ∙ same key (omega arith)) }
 
-pub joined_same : (id : ℕ) (start old new : List (ℕ × Details)) → FindsSame id start old → FindsSame id old new → FindsSame id start new
-joined_same id start old new first last key after = last key after ∙ first key after
+pub joined_same : {X : Type 0} (id : ℕ) (start old new : List (ℕ × X)) → FindsSame id start old → FindsSame id old new → FindsSame id start new
+joined_same {X} id start old new first last key after = last key after ∙ first key after
 
 -- what the entry that was read last says
 module _ (id key : ℕ) (details : Details) (self : SavedDetails) (read : self.ahead ≡ Some (key, details)) where

@@ -77,12 +77,12 @@ devices_same s image [] = refl
 devices_same s image (e ∷ es) = device_if s image (not (is_outside s.meta_map.blocks e.value)) e _ _ (devices_same s image es)
 
 -- the details of a device, as a number
-record AreDetails (details : Details) (number : ℕ) : Type 0 where
+pub record AreDetails (details : Details) (number : ℕ) : Type 0 where
   pub transaction : details.transaction ≡ number / 2 ^ 64 % 2 ^ 64
   pub created : details.created ≡ number / 2 ^ 128 % 2 ^ 32
   pub snapped : details.snapped ≡ number / 2 ^ 160
 
-details_are : (transaction time : ℕ) (details : Details) (number : Option ℕ) → FitLost transaction time
+pub details_are : (transaction time : ℕ) (details : Details) (number : Option ℕ) → FitLost transaction time
     → details ≡ unwrap_or (option_map details_of number) (lost_details transaction time) → AreDetails details (unwrap_or number (details_code 0 transaction time time))
 details_are transaction time details None fits is =
     let transaction_fits = fits.transaction_fits in

@@ -23,13 +23,13 @@ abbrev pub details_room : SavedDetails → ℕ
 details_room details = saved_room details.entries
 
 -- an answer is what the key has, and greater keys have what they had
-pub record IsFound (id : ℕ) (found : Option Details) (old new : List (ℕ × Details)) : Type 0 where
+pub record IsFound {X : Type 0} (id : ℕ) (found : Option X) (old new : List (ℕ × X)) : Type 0 where
   pub here : found ≡ lookup id old
   pub later : (key : ℕ) → id < key → lookup key new ≡ lookup key old
 
 -- from an id on the same is found in what is left after as before
-abbrev pub FindsSame : ℕ → List (ℕ × Details) → List (ℕ × Details) → Type 0
-FindsSame id old new = (key : ℕ) → id ≤ key → lookup key new ≡ lookup key old
+abbrev pub FindsSame : {X : Type 0} → ℕ → List (ℕ × X) → List (ℕ × X) → Type 0
+FindsSame {X} id old new = (key : ℕ) → id ≤ key → lookup key new ≡ lookup key old
 
 -- what is known of a device is what is found of it, whatever the device tells
 pub record KnowsHere (id : ℕ) (known : Option Details) (old new : SavedDetails) : Type 0 where

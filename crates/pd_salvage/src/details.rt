@@ -22,7 +22,7 @@ pub(crate) enum Known {
 
 /// The details that are saved of a pool's devices.
 #[derive(Drop)]
-pub(crate) struct SavedDetails {
+pub struct SavedDetails {
     entries: SavedCursor<Details>,
     /// The entry that was read last.
     ahead: Option<(u64, Details)>,
@@ -39,7 +39,7 @@ impl SavedDetails {
     ghost use Rattle.pd_salvage.specs.Details.{details_left, details_room, IsFound, IsFoundOr, IsKnown};
 
     /// Those of the details tree with this root, of a pool with so many metadata blocks.
-    pub(crate) fn start(alloc: Global, nr: u64, root: u64) -> Result<SavedDetails, AllocError>
+    pub fn start(alloc: Global, nr: u64, root: u64) -> Result<SavedDetails, AllocError>
         ensures left { (image : List (List ℕ)) → IfOk result (λ details. details_left image details ≡ map (item_of details_of) (salvaged_entries 24 nr image root)) }
         ensures room { IfOk result (λ details. details_room details ≡ nr) }
     {
@@ -77,7 +77,7 @@ impl SavedDetails {
     }
 
     /// Those of this device, or `lost` where it has none.
-    pub(crate) fn find_or<D: Device>(
+    pub fn find_or<D: Device>(
         &mut self,
         dev: &mut D,
         id: u64,

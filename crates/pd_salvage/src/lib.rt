@@ -17,7 +17,11 @@ mod trail;
 mod walk;
 
 pub use cursor::SavedCursor;
+pub use details::SavedDetails;
 pub use joined::Joining;
 pub use pool::salvage;
+pub use range::Range;
 pub use saved::{Salvage, SalvageFault, SavedDevice, SavedHead};
 pub use saved_shape::{SavedLeaf, SavedPiece, SavedShape, ShapedDevice};
+pub use saving::{head_of, is_inside, lost_details};
+pub use trail::{is_sound, is_wanted};

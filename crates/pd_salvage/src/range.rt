@@ -10,23 +10,23 @@ use pd_value::Value;
 
 /// The keys that are wanted of a node.
 #[derive(Clone, Copy)]
-pub(crate) struct Range {
+pub struct Range {
     /// The least key.
-    pub(crate) low: u64,
+    pub low: u64,
     /// The end of the keys, without which they are: 2^64 at the most.
-    pub(crate) high: u128,
+    pub high: u128,
 }
 
 impl Range {
     /// Whether the key is wanted.
-    pub(crate) fn has(&self, key: u64) -> bool
+    pub fn has(&self, key: u64) -> bool
         ensures { result ≡ is_in_range self.now key }
     {
         (key >= self.low) & ((key as u128) < self.high)
     }
 
     /// The part that is wanted of the node's child `i`.
-    pub(crate) fn of_child<V: Value>(&self, node: &Block, i: usize) -> Range
+    pub fn of_child<V: Value>(&self, node: &Block, i: usize) -> Range
         requires { i < entry_count V.SIZE node.now.0 }
         ensures { result ≡ child_range V.SIZE node.now.0 self.now i }
     {

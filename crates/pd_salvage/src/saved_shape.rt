@@ -20,9 +20,9 @@ pub struct SavedLeaf {
 #[derive(Clone, Copy, Debug, PartialEq, Eq)]
 pub enum SavedPiece {
     /// So many runs of the device's own.
-    Own(usize),
+    Own(u32),
     /// All of the shared leaf with this number; the first one has 0.
-    Shared(u64),
+    Shared(u32),
 }
 
 /// A thin device, and how many of the pieces are its.
@@ -36,7 +36,7 @@ pub struct ShapedDevice {
     pub pieces: usize,
 }
 
-/// A pool that is held in memory with its shared leaves: 16 bytes a leaf or a piece, 40 a device and 32 a run. A shared
+/// A pool that is held in memory with its shared leaves: 16 bytes a leaf, 8 a piece, 48 a device and 32 a run. A shared
 /// leaf's runs stand in it once.
 ///
 /// It is a shape whose meaning is a lawful pool.

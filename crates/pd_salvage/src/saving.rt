@@ -138,7 +138,7 @@ impl Saving {
 }
 
 /// What the superblock says of the pool.
-fn head_of(s: &ThinSuper) -> SavedHead
+pub fn head_of(s: &ThinSuper) -> SavedHead
     ensures head { result ≡ head_of s.now }
     ensures fits { FitsHead result }
 {
@@ -154,7 +154,7 @@ fn head_of(s: &ThinSuper) -> SavedHead
 /// The details of a device whose own are lost, in a pool with this transaction id and time.
 ///
 /// With the pool's time as snapped a kernel copies each block that a snapshot may share before it writes to it.
-fn lost_details(transaction: u64, time: u32) -> Details
+pub fn lost_details(transaction: u64, time: u32) -> Details
     ensures lost { result ≡ lost_details transaction time }
     ensures fits { FitLost transaction time }
 {
@@ -182,7 +182,7 @@ fn head(uuid: [u8; 16], time: u32, transaction: u64, block_size: u32, blocks: u6
 }
 
 /// Whether a root lies in the metadata, of so many blocks.
-fn is_inside(root: u64, nr: u64) -> bool
+pub fn is_inside(root: u64, nr: u64) -> bool
     ensures { result ≡ not (is_outside nr root) }
 {
     (root != 0) & (root < nr)

@@ -128,14 +128,14 @@ impl Trail {
 }
 
 /// Whether the block lies in the metadata, of so many blocks, and keys are wanted of it.
-fn is_wanted(b: u64, range: &Range, nr: u64) -> bool
+pub fn is_wanted(b: u64, range: &Range, nr: u64) -> bool
     ensures { result ≡ is_wanted nr b range.now }
 {
     (b != 0) & (b < nr) & ((range.low as u128) < range.high)
 }
 
 /// Whether the block is undamaged as the node in this place.
-fn is_sound<V: Value>(block: &Block, place: u64) -> bool
+pub fn is_sound<V: Value>(block: &Block, place: u64) -> bool
     ensures { result ≡ not (is_damaged V.SIZE place block.now.0) }
 {
     node_rules::<V>(block, place).is_empty()
