@@ -12,6 +12,10 @@ pub mod SharedLemmas
 pub mod SharedWhole
 pub mod ShapeParts
 pub mod SavedTextLemmas
+pub mod ShapeLineLemmas
+pub mod ShapeTextLemmas
 pub mod OverflowingLemmas
 pub mod SavedNeedLemmas
+pub mod ShapeNeedLemmas
+pub mod ShapePartLemmas
 pub mod MadeLemmas

@@ -10,8 +10,10 @@ use Rattle.pd_texts.specs.ThinState.{first_of}
 use Rattle.pd_spells.specs.ThinNeed.{need_of_devices, overflows_in, thin_need_so_far}
 use Rattle.pd_salvage.specs.declared.saved.SavedHead.{SavedHead}
 use Rattle.pd_restore.specs.declared.begin.Rest.{Rest}
-use Rattle.pd_restore.specs.declared.begin.Rest.TheVariants.{Text, Saved}
+use Rattle.pd_restore.specs.declared.begin.Rest.TheVariants.{Text, Saved, Shape}
 use Rattle.pd_restore.specs.Pools.{StandsBefore, lines_before}
+use Rattle.pd_restore.specs.SavedLines.{lines_left}
+use Rattle.pd_restore.specs.ShapeLines as shape
 use Rattle.pd_restore.specs.Whole.{head_of_pool}
 use Rattle.pd_restore.proofs.BeginLemmas.{pool_small}
 use Rattle.pd_restore.proofs.ComingLemmas.{made_pool}
@@ -51,7 +53,8 @@ need_exact p rest room need stands most is = by rest stands
 
     by : (rest : Rest) → StandsBefore p rest → need ≡ pool_need_so_far room (lines_before p rest)
     by (Text text) stands = sym (begun_need text.state.is_shared (head_of_pool p) room ∙ fits (pool_small (first_of text.state) p stands.so_far.lines.0))
-    by (Saved made) stands = sym (begun_need false (head_of_pool p) room ∙ fits (pool_small first_line p (made_pool p made stands)))
+    by (Saved made) stands = sym (begun_need false (head_of_pool p) room ∙ fits (pool_small first_line p (made_pool false p (lines_left made) stands)))
+    by (Shape made) stands = sym (begun_need true (head_of_pool p) room ∙ fits (pool_small shared_first_line p (made_pool true p (shape.lines_left made) stands)))
 
 pub need_some : (p : SavedHead) (room need : ℕ) → need ≡ min (need_of_devices [] p.blocks 0 room) (2 ^ 64 - 1) → 1 ≤ need
 need_some p room need is = omega (arith, is, some_need p.blocks room)

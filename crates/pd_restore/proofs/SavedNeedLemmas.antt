@@ -2,7 +2,7 @@
 use Rattle.std.proofs.Common.{◌≡◌, ℕ, zero, suc, ◌+◌, ◌-◌, ◌^◌, ◌<◌, ◌≤◌, min, get_or, List, [], ◌∷◌, ◌++◌, length, map, take, drop, refl, ap, sym, subst, ◌∙◌, arith, length-drop}
 use Rattle.std.specs.List.{AllByRecursion, flat_map, range_with_len}
 use Rattle.std.proofs.lemmas.Grind.{flat_map-append}
-use Rattle.std.proofs.lemmas.List.{append-nil, map-append, nil_from_length, take-append-drop, take_all, take_more}
+use Rattle.std.proofs.lemmas.List.{append-nil, map-append, nil_from_length, take-append-drop, take_more}
 use Rattle.std.proofs.lemmas.List.Sums.{sum_by-cons}
 use Rattle.pd_kinds.specs.Meaning.{Mapping, ThinDevice}
 use Rattle.pd_thin_meaning.specs.declared.joined.Run.{Run as SavedRun}
@@ -34,7 +34,7 @@ after_run blocks least v d t (suc n) rest are = after_run blocks (v + 1) (suc v)
 abbrev pub IsWithin : ℕ → SavedRun → Type 0
 IsWithin blocks r = r.target + r.length ≤ blocks
 
-part_within : (blocks least : ℕ) (runs : List SavedRun) → AreMappings blocks least (flat_map mappings_of (map spelled runs))
+pub part_within : (blocks least : ℕ) (runs : List SavedRun) → AreMappings blocks least (flat_map mappings_of (map spelled runs))
     → AllByRecursion (λ (r : Run). 1 ≤ r.length) (map spelled runs) → AllByRecursion (IsWithin blocks) runs
 part_within blocks least [] are some = tt
 part_within blocks least (r ∷ runs) are some =
@@ -43,7 +43,7 @@ part_within blocks least (r ∷ runs) are some =
       part_within blocks later.0 runs later.1 some.1,
     )
 
-all_append : {A : Type 0} (P : A → Type 0) (xs ys : List A) → AllByRecursion P xs → AllByRecursion P ys → AllByRecursion P (xs ++ ys)
+pub all_append : {A : Type 0} (P : A → Type 0) (xs ys : List A) → AllByRecursion P xs → AllByRecursion P ys → AllByRecursion P (xs ++ ys)
 all_append P [] ys first second = second
 all_append P (x ∷ xs) ys first second = (first.0, all_append P xs ys first.1 second)
 
@@ -65,7 +65,7 @@ unfolding pool_of
 runs_within saved sound =
     parts_within saved.head.blocks 0 saved.devices saved.runs sound.lawful.devices (have_mappings (parts_of saved.devices saved.runs) sound.joined) sound.number
 
-part_data : (runs : List SavedRun) → map (λ (x : Mapping). x.data_block) (flat_map mappings_of (map spelled runs)) ≡ data_of_runs runs
+pub part_data : (runs : List SavedRun) → map (λ (x : Mapping). x.data_block) (flat_map mappings_of (map spelled runs)) ≡ data_of_runs runs
 part_data [] = refl
 part_data (r ∷ runs) =
     map-append (λ (x : Mapping). x.data_block) (mappings_from r.virt r.target r.time r.length) (flat_map mappings_of (map spelled runs))
@@ -113,12 +113,9 @@ data_more runs i d within =
     ∙ (flat_map-append (λ (r : SavedRun). range_with_len r.target r.length) (take i runs) (r ∷ [])
     ∙ ap (λ (blocks : List ℕ). data_of_runs (take i runs) ++ blocks) (append-nil (range_with_len r.target r.length)))
 
--- all runs were counted
-pub over_of_all : (counts : Counted) (runs : List SavedRun) (i blocks : ℕ) → length runs ≤ i → counts.size ≡ blocks → HasCountedThrice counts (data_of_runs (take i runs))
-    → overflows_of counts counts.size ≡ overflows_in (data_of_runs runs) blocks
-over_of_all counts runs i blocks all size counted =
-    ap (overflows_of counts) size
-    ∙ (over_listed counts (data_of_runs (take i runs)) blocks counted ∙ ap (λ (rs : List SavedRun). overflows_in (data_of_runs rs) blocks) (take_all i runs all))
+-- where all data blocks were counted
+pub over_all : (counts : Counted) (data_blocks : List ℕ) (blocks : ℕ) → counts.size ≡ blocks → HasCountedThrice counts data_blocks → overflows_of counts counts.size ≡ overflows_in data_blocks blocks
+over_all counts data_blocks blocks size counted = ap (overflows_of counts) size ∙ over_listed counts data_blocks blocks counted
 
 -- a need that is below the end of its type is the pool's
 pub need_exact : (saved : SavedPool) → IsSavedPool saved → (head : SavedHead) (mapped : List ℕ) (over room need : ℕ) → head ≡ saved.head

@@ -14,7 +14,9 @@ use Rattle.pd_texts.specs.Reader.{in_order}
 use Rattle.pd_spells.specs.ThinText.{Line, first_line, pool_line, device_line, map_line, end_line, Part, Run, HasMappings, follows, joined_runs, lines_of_part, mappings_of, pool_format, with_mapping}
 use Rattle.pd_spells.proofs.ThinRead.{FitsLine, PlacedInPool}
 use Rattle.pd_laid.specs.Shape.{shape_of}
-use Rattle.pd_shapes.specs.PoolText.{MeansAs, MeansPoolShape, SpellsPoolShape}
+use Rattle.pd_laid.proofs.ShapeLemmas.{is_shape, pool_kept}
+use Rattle.pd_shapes.specs.PoolText.{IsLawfulShape, MeansAs, MeansPoolShape, SpellsPoolShape}
+use Rattle.pd_spells.specs.Lawful.{IsLawfulPool}
 use Rattle.pd_shapes.proofs.PoolLaws.{pool_language}
 use Rattle.pd_shapes.proofs.ShapeText.{parts_unshared}
 use Rattle.pd_salvage.specs.declared.saved.SavedDevice.{SavedDevice}
@@ -34,7 +36,7 @@ with_mapping_some m (r ∷ rs) all = elim (cases_Bool (follows m r)) [
   | inr e ↦ rw e (lit≤ tt, all)
 ]
 
-joined_some : (ms : List Mapping) → AllByRecursion (λ (r : Run). 1 ≤ r.length) (joined_runs ms)
+pub joined_some : (ms : List Mapping) → AllByRecursion (λ (r : Run). 1 ≤ r.length) (joined_runs ms)
 joined_some [] = tt
 joined_some (m ∷ ms) = with_mapping_some m (joined_runs ms) (joined_some ms)
 
@@ -53,6 +55,10 @@ saved_means saved sound =
       means = record { parts = parts; lines_are = refl; devices = refl; runs = have_mappings parts sound.joined; lawful = sound.lawful };
       shape_is = refl;
     })
+
+-- which is a lawful one
+pub saved_lawful : (saved : SavedPool) → IsSavedPool saved → IsLawfulShape (shape_of (pool_of saved))
+saved_lawful saved sound = record { shape = is_shape (pool_of saved); pool = subst IsLawfulPool (sym (pool_kept (pool_of saved))) sound.lawful }
 
 -- so its text spells it
 pub saved_spells : (saved : SavedPool) → IsSavedPool saved → SpellsPoolShape (saved_text saved) (shape_of (pool_of saved))
@@ -75,7 +81,7 @@ unfolding lines_at
 all_left saved = refl
 
 pub all_lines : (saved : SavedPool) (p : SavedHead) (made : SavedLines) → p ≡ saved.head → lines_left made ≡ flat_map lines_of_part (parts_of saved.devices saved.runs)
-    → in_order (made_begun p) (lines_to_end made) ≡ saved_lines saved
+    → in_order (made_begun false p) (lines_to_end (lines_left made)) ≡ saved_lines saved
 all_lines saved p made head rest = ap₂ (λ (h : SavedHead) (ls : List Line). first_line ∷ pool_line (head_of_pool h) ∷ (ls ++ end_line ∷ [])) head rest
 
 -- a run, and what comes after it

@@ -1,10 +1,10 @@
 -- A pool with the leaves that its devices share, as what is restored from a text of either version.
 use Rattle.std.proofs.Common.{refl, ap}
-use Rattle.std.specs.Prelude.{ℕ, List, [], Option}
+use Rattle.std.specs.Prelude.{ℕ, true, false, List, [], Option}
 use Rattle.pd_grammar.specs.Texts.{Reading}
 use Rattle.pd_grammar.proofs.LineLemmas.{AreRead}
 use Rattle.pd_grammar.proofs.VerdictLemmas.{some_verdict}
-use Rattle.pd_spells.specs.ThinText.{Line, first_line, pool_format, pool_line}
+use Rattle.pd_spells.specs.ThinText.{Line, first_line, shared_first_line, pool_format, pool_line}
 use Rattle.pd_spells.proofs.ThinRead.{FitsLine, PlacedInPool}
 use Rattle.pd_laid.specs.LaidThin.{laid_shape}
 use Rattle.pd_laid.specs.Shape.{ThinShape}
@@ -17,9 +17,11 @@ use Rattle.pd_restoring.specs.Subject.{Subject, HasVerdicts}
 use Rattle.pd_restoring.proofs.BeginLemmas.{begins_with}
 use Rattle.pd_restore.specs.declared.begin.Begun.{Begun}
 use Rattle.pd_restore.specs.declared.begin.Rest.{Rest}
-use Rattle.pd_restore.specs.declared.begin.Rest.TheVariants.{Text, Saved}
+use Rattle.pd_restore.specs.declared.begin.Rest.TheVariants.{Text, Saved, Shape}
 use Rattle.pd_salvage.specs.declared.saved.SavedHead.{SavedHead}
 use Rattle.pd_restore.specs.Coming.{IsTextOf, lines_to_end, made_begun}
+use Rattle.pd_restore.specs.SavedLines.{lines_left}
+use Rattle.pd_restore.specs.ShapeLines as shape
 use Rattle.pd_restore.specs.Whole.{begun_lines, head_of_pool}
 
 -- shapes of pools, and their texts
@@ -29,7 +31,8 @@ pools = record { format = pool_format; Means = MeansPoolShape; need = pool_need_
 -- the first two lines, the newest first
 abbrev pub lines_before : SavedHead → Rest → List Line
 lines_before pool (Text text) = begun_lines text pool
-lines_before pool (Saved made) = made_begun pool
+lines_before pool (Saved made) = made_begun false pool
+lines_before pool (Shape made) = made_begun true pool
 
 abbrev pub lines_of_begun : Begun → List Line
 lines_of_begun begun = lines_before begun.pool begun.rest
@@ -37,7 +40,8 @@ lines_of_begun begun = lines_before begun.pool begun.rest
 -- they were read, from whatever source, or those that come may follow them
 abbrev pub StandsBefore : SavedHead → Rest → Type 0
 StandsBefore pool (Text text) = ReadsOn pool_format ThinStands (begun_lines text pool) text
-StandsBefore pool (Saved made) = AreRead pool_format [] (in_order (made_begun pool) (lines_to_end made))
+StandsBefore pool (Saved made) = AreRead pool_format [] (in_order (made_begun false pool) (lines_to_end (lines_left made)))
+StandsBefore pool (Shape made) = AreRead pool_format [] (in_order (made_begun true pool) (lines_to_end (shape.lines_left made)))
 
 abbrev pub PoolStands : Begun → Type 0
 PoolStands begun = StandsBefore begun.pool begun.rest
@@ -45,7 +49,8 @@ PoolStands begun = StandsBefore begun.pool begun.rest
 -- they were read of this text, and this is left of the source
 abbrev pub LeavesBefore : List ℕ → SavedHead → Rest → Option (List ℕ) → Type 0
 LeavesBefore text pool (Text reader) left = LeavesOf pool_format text (begun_lines reader pool) reader left
-LeavesBefore text pool (Saved made) left = IsTextOf (made_begun pool) made left text
+LeavesBefore text pool (Saved made) left = IsTextOf (made_begun false pool) (lines_left made) left text
+LeavesBefore text pool (Shape made) left = IsTextOf (made_begun true pool) (shape.lines_left made) left text
 
 abbrev pub PoolLeaves : List ℕ → Begun → Option (List ℕ) → Type 0
 PoolLeaves text begun left = LeavesBefore text begun.pool begun.rest left
@@ -64,6 +69,13 @@ pool_goes_on text begun left leaves = goes_on begun.rest leaves
       first = first_line;
       second = pool_line (head_of_pool begun.pool);
       are = refl;
-      rest = lines_to_end made;
+      rest = lines_to_end (lines_left made);
+      is = ap (λ (r : Reading Line). r.lines) leaves.0;
+    }
+    goes_on (Shape made) leaves = record {
+      first = shared_first_line;
+      second = pool_line (head_of_pool begun.pool);
+      are = refl;
+      rest = lines_to_end (shape.lines_left made);
       is = ap (λ (r : Reading Line). r.lines) leaves.0;
     }

@@ -12,6 +12,7 @@ ghost use Rattle.pd_restore.specs.Begin.{IsOfPool};
 ghost use Rattle.pd_restore.specs.Whole.{begun_lines, head_of_pool};
 
 use crate::saved_lines::SavedLines;
+use crate::shape_lines::ShapeLines;
 use pd_image::Source;
 use pd_restoring::{RestoreFault, of_read};
 use pd_salvage::SavedHead;
@@ -31,6 +32,8 @@ pub(crate) enum Rest {
     Text(ThinText),
     /// A pool that is held in memory.
     Saved(SavedLines),
+    /// The shape of a pool that is held in memory.
+    Shape(ShapeLines),
 }
 
 /// Reads the first line and the pool line.

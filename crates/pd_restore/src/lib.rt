@@ -3,6 +3,8 @@
 
 mod begin;
 mod gathering;
+mod giving;
+mod known;
 mod lines;
 mod made;
 mod overflowing;
@@ -11,13 +13,19 @@ mod pool;
 mod saved;
 mod saved_lines;
 mod saved_need;
+mod shape_lines;
+mod shape_made;
+mod shape_need;
 mod shared;
 mod shared_lines;
+mod span;
 mod thin;
 mod unshared;
 
-pub use made::{MadeFault, restore_made};
+pub use made::restore_made;
 pub use pd_devices::need_thin;
-pub use pd_restoring::RestoreFault;
+pub use pd_restoring::{MadeFault, RestoreFault};
 pub use saved_need::need_of_saved;
+pub use shape_made::restore_shape;
+pub use shape_need::need_of_shape;
 pub use thin::restore_thin;

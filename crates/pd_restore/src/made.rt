@@ -1,39 +1,26 @@
 //! A pool that is held in memory, written to a device.
 
-ghost use Rattle.std.specs.Prelude.{◌≡◌, ◌≤◌, ℕ, [], Some};
-ghost use Rattle.pd_kinds.specs.Limits.{room_of};
+ghost use Rattle.std.specs.Prelude.{◌≡◌, ℕ};
 ghost use Rattle.pd_image.specs.Device.{IsWritable, KeepsPlace};
-ghost use Rattle.pd_grammar.specs.Spelling.{Verdict, accepted};
-ghost use Rattle.pd_laid.specs.Shape.{ThinShape, shape_of};
+ghost use Rattle.pd_laid.specs.Shape.{shape_of};
 ghost use Rattle.pd_salvage.specs.Saved.{pool_of};
-ghost use Rattle.pd_shapes.specs.PoolText.{IsPoolTextVerdict};
+ghost use Rattle.pd_shapes.specs.SharedNeed.{shape_need};
 ghost use Rattle.pd_spells.specs.Lawful.{IsLawfulPool};
 ghost use Rattle.pd_spells.specs.ThinNeed.{thin_need};
+ghost use Rattle.pd_restore.specs.Given.{GivesShape};
 ghost use Rattle.pd_restore.specs.Made.{CountsMade, IsMadeOf, ending_of};
-ghost use Rattle.pd_restore.specs.Pools.{PoolLeaves, PoolStands};
-ghost use Rattle.pd_restore.specs.SavedLines.{saved_text};
+ghost use Rattle.pd_restore.specs.Pools.{PoolStands};
 
 use crate::begin::{Begun, Rest};
+use crate::known::restore_known;
 use crate::saved_lines::SavedLines;
 use crate::saved_need::need_of_saved;
-use crate::thin::Pools;
-use pd_image::{Device, Failed, Source};
+use pd_image::Device;
 use pd_kinds::MAX_META_BLOCKS;
-use pd_restoring::{RestoreFault, restore_begun};
+use pd_restoring::MadeFault;
 use pd_salvage::Salvage;
 use pd_shapes::{pool_text_has_one_verdict, pool_text_is_accepted_where_there_is_room};
 use std::alloc::Global;
-
-/// Why a pool wasn't written.
-#[derive(Clone, Copy, Debug, PartialEq, Eq)]
-pub enum MadeFault {
-    /// There wasn't enough memory.
-    Memory,
-    /// The device has failed.
-    Device,
-    /// There is no room: so many blocks are needed, and there are so many.
-    NoRoom { need: u64, blocks: u64 },
-}
 
 /// Writes a pool that is held in memory to a device, as a restore of its text does.
 ///
@@ -53,47 +40,15 @@ pub fn restore_made<D: Device>(alloc: Global, saved: Salvage, dev: &mut D) -> Re
     let Some(need) = need_of_saved(alloc, &saved, room) else {
         return Err(MadeFault::Memory);
     };
-    if need > room {
-        return Err(MadeFault::NoRoom { need, blocks: room });
-    }
-    restore_saved(alloc, saved, dev, room)
-}
-
-/// Writes a pool for which there is room.
-fn restore_saved<D: Device>(
-    alloc: Global,
-    saved: Salvage,
-    dev: &mut D,
-    room: u64,
-) -> Result<(), MadeFault>
-    requires writable { IsWritable (D.state dev.old) }
-    requires here { room ≡ room_of (D.state dev.old).blocks }
-    requires room { thin_need (pool_of saved) (room_of (D.state dev.old).blocks) ≤ room_of (D.state dev.old).blocks }
-    ensures made { IsMadeOf (pool_of saved) (ending_of result) (D.state dev.old) (D.state dev.new) }
-    ensures place { KeepsPlace (D.state dev.old) (D.state dev.new) }
-    ensures causes { CountsMade result (D.state dev.old).faults (D.state dev.new).faults }
-{
-    let begun = begun_of(saved);
-    let mut source = Ended { attached: true };
-    match restore_begun(&Pools, alloc, begun, &mut source, dev, room) {
-        Ok(()) => Ok(()),
-        Err(fault) => match fault {
-            RestoreFault::Memory => Err(MadeFault::Memory),
-            RestoreFault::Device => Err(MadeFault::Device),
-            RestoreFault::Source => unreachable!(),
-            RestoreFault::Text(_) => unreachable!(),
-            RestoreFault::NoRoom { .. } => unreachable!(),
-        },
-    }
+    restore_known(alloc, begun_of(saved), need, dev, room)
 }
 
 /// What is restored of a pool: its text, where there is room for the pool, is accepted as that of a pool that shares no leaf.
 fn begun_of(saved: Salvage) -> Begun
     ensures stands { PoolStands result }
-    ensures leaves { PoolLeaves (saved_text saved) result (Some []) }
+    ensures gives { GivesShape (shape_of (pool_of saved)) result }
     ensures lawful { IsLawfulPool (pool_of saved) }
-    ensures only { (room : ℕ) (verdict : Verdict ThinShape) → thin_need (pool_of saved) room ≤ room
-        → IsPoolTextVerdict (saved_text saved) room verdict → verdict ≡ accepted (shape_of (pool_of saved)) }
+    ensures need { (room : ℕ) → shape_need (shape_of (pool_of saved)) room ≡ thin_need (pool_of saved) room }
 {
     pool_text_is_accepted_where_there_is_room();
     pool_text_has_one_verdict();
@@ -102,29 +57,5 @@ fn begun_of(saved: Salvage) -> Begun
     Begun {
         pool,
         rest: Rest::Saved(SavedLines::new(saved)),
-    }
-}
-
-/// A source of which nothing is left: the lines stand in memory.
-#[derive(Drop)]
-struct Ended {
-    attached: bool,
-}
-
-impl Source for Ended {
-    ghost use Rattle.std.proofs.Common.{refl};
-    ghost use Rattle.pd_restore.specs.Made.{ended_state};
-
-    ghost state = { ended_state };
-
-    ghost unnamed = { λ _ _. refl };
-
-    fn attach(&mut self, _path: &str) -> Result<(), Failed> {
-        self.attached = true;
-        Ok(())
-    }
-
-    fn take(&mut self, _into: &mut [u8]) -> Result<usize, Failed> {
-        Ok(0)
     }
 }

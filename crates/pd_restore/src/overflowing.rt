@@ -1,11 +1,13 @@
 //! The data blocks that stand three times or more in what was saved.
 
 ghost use Rattle.std.specs.Prelude.{◌≡◌, ℕ, ◌+◌, ◌<◌, ◌≤◌, List, [], ◌∷◌, ◌++◌, IfOk, OnOk};
-ghost use Rattle.std.specs.List.{range_with_len};
+ghost use Rattle.std.specs.List.{AllByRecursion, range_with_len};
+ghost use Rattle.pd_thin_meaning.specs.declared.joined.Run.{Run as SavedRun};
 ghost use Rattle.pd_devices.specs.Counts.{overflows_of};
-ghost use Rattle.pd_restore.specs.Overflowing.{HasCountedThrice};
+ghost use Rattle.pd_restore.specs.Overflowing.{HasCountedThrice, data_of_runs};
 
 use pd_count::Counts;
+use pd_thin_meaning::Run;
 use std::alloc::{AllocError, Global};
 
 /// How often each data block stands in what was saved, up to three times, and how many do so three times or more.
@@ -49,8 +51,21 @@ impl Thrice {
         Ok(())
     }
 
+    /// Counts the data blocks of these runs once more.
+    pub(crate) fn add_runs(&mut self, runs: &[Run]) -> Result<(), AllocError>
+        requires within { AllByRecursion (λ (r : SavedRun). r.target + r.length ≤ self.old.counts.size) runs.now }
+        ensures size { OnOk result (self.new.counts.size ≡ self.old.counts.size) }
+        ensures listed { (before : List ℕ) → HasCountedThrice self.old.counts before
+            → OnOk result (HasCountedThrice self.new.counts (before ++ data_of_runs runs.now)) }
+    {
+        for run in runs {
+            self.add_run(run.target, run.length)?;
+        }
+        Ok(())
+    }
+
     /// Counts a block once more, unless it was counted three times.
-    fn add(&mut self, b: u64) -> Result<(), AllocError>
+    pub(crate) fn add(&mut self, b: u64) -> Result<(), AllocError>
         requires within { b < self.old.counts.size }
         ensures size { OnOk result (self.new.counts.size ≡ self.old.counts.size) }
         ensures listed { (before : List ℕ) → HasCountedThrice self.old.counts before

@@ -1,4 +1,4 @@
-//! A pool that is held in memory, restored by its lines.
+//! What is held in memory of a pool, restored by its lines.
 
 ghost use Rattle.std.specs.Prelude.{◌≡◌, ℕ, List, Option, IfOk, IfErr, OnOk};
 ghost use Rattle.pd_image.specs.Device.{IsWritable};
@@ -12,12 +12,10 @@ ghost use Rattle.pd_restoring.specs.Whole.{Writes};
 ghost use Rattle.pd_restore.specs.Coming.{Coming, CanTakeMade, HasMade, IsTextOf, made_begun};
 ghost use Rattle.pd_restore.specs.Pools.{pools};
 ghost use Rattle.pd_restore.specs.Reading.{EndsAll};
-ghost use Rattle.pd_restore.specs.Unshared.{HasUnshared};
 
 use crate::gathering::Gathering;
+use crate::giving::Giving;
 use crate::pool::write_rest;
-use crate::saved_lines::SavedLines;
-use pd_devices::Devices;
 use pd_draft::Draft;
 use pd_image::Device;
 use pd_kinds::Block;
@@ -25,51 +23,52 @@ use pd_restoring::RestoreFault;
 use pd_salvage::SavedHead;
 use std::alloc::Global;
 
-/// Restores the lines of a saved pool after its own and writes all of it but its superblock, which it answers.
-pub(crate) fn write_saved<D: Device>(
+/// Restores the lines of a pool after its own, by what gathers those of their version, and writes all of it but its superblock,
+/// which it answers.
+pub(crate) fn write_saved<D: Device, L: Giving, G: Gathering>(
     alloc: Global,
-    lines: &mut SavedLines,
+    lines: &mut L,
     draft: &mut Draft<'_, D>,
     pool: &SavedHead,
     room: u64,
 ) -> Result<Block, RestoreFault>
-    requires made { HasMade lines.old pool.now room (draft_state draft.old) }
+    requires made { HasMade G.shared (L.coming lines.old) pool.now room (draft_state draft.old) }
     requires writable { IsWritable (draft_state draft.old).device }
     requires closed { IsClosed (draft_state draft.old).device }
     ensures same_reference { draft.new.dev.ghost_name ≡ draft.old.dev.ghost_name }
-    ensures writes { (left : Option (List ℕ)) → IfOk result (Writes pools room (IsTextOf (made_begun pool.now) lines.old left) left (draft_state draft.old) (draft_state draft.new)) }
-    ensures says { (left : Option (List ℕ)) (t : List ℕ) → IsTextOf (made_begun pool.now) lines.old left t → IfErr result (SaysOf pool_format pool_need_so_far room t) }
+    ensures writes { (left : Option (List ℕ)) → IfOk result (Writes pools room (IsTextOf (made_begun G.shared pool.now) (L.coming lines.old) left) left (draft_state draft.old) (draft_state draft.new)) }
+    ensures says { (left : Option (List ℕ)) (t : List ℕ) → IsTextOf (made_begun G.shared pool.now) (L.coming lines.old) left t → IfErr result (SaysOf pool_format pool_need_so_far room t) }
     ensures closed { StaysClosed (draft_state draft.old).device (draft_state draft.new).device }
     ensures faults { CountsTake result (draft_state draft.old).device.faults (draft_state draft.new).device.faults }
 {
-    let mut devices = match Devices::new(alloc, pool.blocks) {
-        Ok(devices) => devices,
+    let mut gathered = match G::start(alloc, pool.blocks, room) {
+        Ok(gathered) => gathered,
         Err(_) => return Err(RestoreFault::Memory),
     };
-    take_all(lines, draft, &mut devices, room)?;
-    write_rest(alloc, draft, &devices, pool, room)
+    take_all(lines, draft, &mut gathered, room)?;
+    write_rest(alloc, draft, &gathered, pool, room)
 }
 
 /// Restores the lines that come, and the last one.
-fn take_all<D: Device>(
-    lines: &mut SavedLines,
+fn take_all<D: Device, L: Giving, G: Gathering>(
+    lines: &mut L,
     draft: &mut Draft<'_, D>,
-    devices: &mut Devices,
+    gathered: &mut G,
     room: u64,
 ) -> Result<(), RestoreFault>
-    requires made { CanTakeMade room lines.old devices.old (draft_state draft.old) }
+    requires made { CanTakeMade G.HasGathered room (L.coming lines.old) gathered.old (draft_state draft.old) }
     requires writable { IsWritable (draft_state draft.old).device }
     requires closed { IsClosed (draft_state draft.old).device }
     ensures same_reference { draft.new.dev.ghost_name ≡ draft.old.dev.ghost_name }
-    ensures all { (before : List Line) (start : DraftState) → Coming before room lines.old devices.old start (draft_state draft.old)
-        → (left : Option (List ℕ)) → OnOk result (EndsAll HasUnshared before room (IsTextOf before lines.old left) left devices.new start (draft_state draft.new)) }
-    ensures says { (before : List Line) (start : DraftState) → Coming before room lines.old devices.old start (draft_state draft.old)
-        → (left : Option (List ℕ)) (t : List ℕ) → IsTextOf before lines.old left t → IfErr result (SaysOf pool_format pool_need_so_far room t) }
+    ensures all { (before : List Line) (start : DraftState) → Coming G.HasGathered before room (L.coming lines.old) gathered.old start (draft_state draft.old)
+        → (left : Option (List ℕ)) → OnOk result (EndsAll G.HasGathered before room (IsTextOf before (L.coming lines.old) left) left gathered.new start (draft_state draft.new)) }
+    ensures says { (before : List Line) (start : DraftState) → Coming G.HasGathered before room (L.coming lines.old) gathered.old start (draft_state draft.old)
+        → (left : Option (List ℕ)) (t : List ℕ) → IsTextOf before (L.coming lines.old) left t → IfErr result (SaysOf pool_format pool_need_so_far room t) }
     ensures closed { StaysClosed (draft_state draft.old).device (draft_state draft.new).device }
     ensures faults { CountsTake result (draft_state draft.old).device.faults (draft_state draft.new).device.faults }
 {
     while let Some(line) = lines.next() {
-        devices.take_line(draft, line, room)?;
+        gathered.take_line(draft, line, room)?;
     }
-    devices.take_end(draft, room)
+    gathered.take_end(draft, room)
 }

@@ -8,6 +8,7 @@ ghost use Rattle.pd_spells.specs.ThinText as p;
 ghost use Rattle.pd_spells.specs.ThinText.{lines_of_part};
 ghost use Rattle.pd_texts.specs.ThinLine.{line_of};
 
+use crate::giving::Giving;
 use pd_salvage::Salvage;
 use pd_texts::{Run2, ThinLine};
 use pd_thin_meaning::Run;
@@ -39,25 +40,6 @@ impl SavedLines {
         }
     }
 
-    /// The next line, or none where all were made.
-    pub(crate) fn next(&mut self) -> Option<ThinLine>
-        ensures some { IfSome result (λ line. lines_left self.old ≡ line_of line ∷ lines_left self.new) }
-        ensures none { IfNone result (lines_left self.old ≡ []) }
-    {
-        if self.left == 0 {
-            return self.next_device();
-        }
-        match self.saved.runs().get(self.run) {
-            Some(mapped) => {
-                let line = map_line(mapped);
-                self.run += 1;
-                self.left -= 1;
-                Some(line)
-            }
-            None => self.next_device(),
-        }
-    }
-
     /// The line of a device whose runs begin here.
     fn next_device(&mut self) -> Option<ThinLine>
         ensures some { IfSome result (λ line. lines_at self.old.saved.devices self.old.saved.runs self.old.device self.old.run 0 ≡ line_of line ∷ lines_left self.new) }
@@ -78,8 +60,29 @@ impl SavedLines {
     }
 }
 
+impl Giving for SavedLines {
+    ghost use Rattle.pd_restore.specs.SavedLines.{lines_left};
+
+    ghost coming = { lines_left };
+
+    fn next(&mut self) -> Option<ThinLine> {
+        if self.left == 0 {
+            return self.next_device();
+        }
+        match self.saved.runs().get(self.run) {
+            Some(mapped) => {
+                let line = map_line(mapped);
+                self.run += 1;
+                self.left -= 1;
+                Some(line)
+            }
+            None => self.next_device(),
+        }
+    }
+}
+
 /// The line of a run.
-fn map_line(run: &Run) -> ThinLine
+pub(crate) fn map_line(run: &Run) -> ThinLine
     ensures { line_of result ≡ p.map_line (spelled run.now) }
 {
     ThinLine::Map(Run2 {

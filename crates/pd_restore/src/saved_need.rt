@@ -48,8 +48,6 @@ fn over_of(alloc: Global, blocks: u64, runs: &[Run]) -> Result<u64, AllocError>
     ensures { IfOk result (λ over. over ≡ overflows_in (data_of_runs runs.now) blocks) }
 {
     let mut counted = Thrice::new(alloc, blocks)?;
-    for run in runs {
-        counted.add_run(run.target, run.length)?;
-    }
+    counted.add_runs(runs)?;
     Ok(counted.over())
 }

@@ -19,6 +19,8 @@ use crate::begin::{Begun, Rest, read_pool};
 use crate::gathering::Gathering;
 use crate::pool::write_pool;
 use crate::saved::write_saved;
+use crate::saved_lines::SavedLines;
+use crate::shape_lines::ShapeLines;
 use crate::shared::SharedLines;
 use pd_devices::{Devices, need_thin};
 use pd_draft::Draft;
@@ -109,7 +111,12 @@ impl Restoring for Pools {
                     write_text::<S, D, Devices>(alloc, &mut text, source, draft, &pool, room)
                 }
             }
-            Rest::Saved(mut lines) => write_saved(alloc, &mut lines, draft, &pool, room),
+            Rest::Saved(mut lines) => {
+                write_saved::<D, SavedLines, Devices>(alloc, &mut lines, draft, &pool, room)
+            }
+            Rest::Shape(mut lines) => {
+                write_saved::<D, ShapeLines, SharedLines>(alloc, &mut lines, draft, &pool, room)
+            }
         }
     }
 }

@@ -1,14 +1,23 @@
-use Rattle.std.proofs.Common.{◌≡◌, arith}
-use Rattle.pd_kinds.specs.Limits.{room_of}
+use Rattle.std.proofs.Common.{sym, ◌∙◌}
+use Rattle.pd_laid.specs.Shape.{shape_of}
 use Rattle.pd_salvage.specs.Saved.{pool_of}
-use Rattle.pd_restore.specs.Made.{lacking}
-use Rattle.pd_restore.proofs.MadeLemmas.{resting, resting_short}
+use Rattle.pd_restoring.specs.Made.{ending_of, lacking}
+use Rattle.pd_restoring.proofs.EndingLemmas.{resting}
+use Rattle.pd_restore.specs.Made.{pool_content}
+use Rattle.pd_restore.proofs.MadeLemmas.{pool_made}
 use Rattle.pd_restore.proofs.made.restore_made.Goals as goal
 
 pub returns-in_default-clause-made : goal.returns-in_default-clause-made
-returns-in_default-clause-made g c = resting (pool_of c.args.saved) lacking (g.D.Device.state c.args.dev.now) (λ none. none) tt
+returns-in_default-clause-made g c = resting (pool_content (pool_of c.args.saved)) lacking (g.D.Device.state c.args.dev.now) (λ none. none) tt
 
-pub returns-then-need-room-clause-made : goal.returns-then-need-room-clause-made
-returns-then-need-room-clause-made g c =
-    let here : c.min-room.result ≡ room_of (g.D.Device.state c.args.dev.now).blocks = omega (arith, c.min-room.ensures, c.blocks-2.ensures.count) in
-    resting_short (pool_of c.args.saved) c.in-Some.need c.min-room.result (g.D.Device.state c.args.dev.now) here c.in-Some.ensures c.if-need-room.true
+pub restore_known-requires-clause-some : goal.restore_known-requires-clause-some
+restore_known-requires-clause-some g c =
+    let begun = c.begun_of.ensures in
+    record { shape = shape_of (pool_of c.args.saved); gives = begun.gives; needs = c.in-Some.ensures ∙ sym (begun.need c.min-room.result) }
+
+pub returns-clause-made : goal.returns-clause-made
+returns-clause-made g c =
+    let begun = c.begun_of.ensures in
+    let pool = pool_of c.args.saved in
+    pool_made pool (ending_of c.restore_known.result) (g.D.Device.state c.args.dev.now) (g.D.Device.state c.restore_known.new.dev) begun.lawful begun.need
+    (c.restore_known.ensures.made (shape_of pool) begun.gives (c.in-Some.ensures ∙ sym (begun.need c.min-room.result)))

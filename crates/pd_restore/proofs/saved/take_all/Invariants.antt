@@ -3,20 +3,22 @@ use Rattle.pd_draft.specs.Closed.{StaysClosed}
 use Rattle.pd_draft.specs.Placed.{DraftState}
 use Rattle.pd_spells.specs.ThinText.{Line}
 use Rattle.pd_restore.specs.Coming.{Coming, TakesLines}
-use Rattle.pd_restore.specs.SavedLines.{lines_left}
 use Rattle.pd_restore.proofs.saved.take_all.Given as goal
 
 abbrev pub invariant-loop-line : goal.invariant-loop-line
 invariant-loop-line g l =
     let state = g.D.Device.state in
+    let coming = g.L.Giving.coming in
+    let has = g.G.Gathering.HasGathered in
     let first : DraftState = record { device = state l.initial.draft.dev.now; place = l.initial.draft.next } in
     let now : DraftState = record { device = state l.draft.dev.now; place = l.draft.next } in
     record {
       same_reference : l.draft.dev.ghost_name ≡ l.initial.draft.dev.ghost_name;
-      took : (before : List Line) (start : DraftState) → Coming before l.room l.initial.lines l.initial.devices start first → TakesLines before l.room l.initial.lines l.lines l.devices start now;
+      took : (before : List Line) (start : DraftState) → Coming has before l.room (coming l.initial.lines) l.initial.gathered start first
+          → TakesLines has before l.room (coming l.initial.lines) (coming l.lines) l.gathered start now;
       closed : StaysClosed first.device now.device;
       faults : now.device.faults ≡ first.device.faults;
     }
 
 abbrev pub decreases-loop-line : goal.decreases-loop-line
-decreases-loop-line g l = length (lines_left l.lines)
+decreases-loop-line g l = length (g.L.Giving.coming l.lines)

@@ -1,52 +1,62 @@
 use Rattle.std.proofs.Common.{rules, refl, None}
 use Rattle.pd_draft.specs.DraftState.{draft_state}
-use Rattle.pd_spells.specs.ThinText.{first_line, pool_format}
+use Rattle.pd_spells.specs.ThinText.{pool_format}
 use Rattle.pd_shapes.specs.PoolText.{pool_need_so_far}
 use Rattle.pd_restoring.proofs.ReadingLemmas.{end_says}
-use Rattle.pd_restore.specs.Coming.{IsTextOf, made_begun}
+use Rattle.pd_restore.specs.Coming.{IsTextOf, made_begun, version_line}
 use Rattle.pd_restore.specs.Whole.{head_of_pool}
 use Rattle.pd_restore.proofs.BeginLemmas.{pool_small}
 use Rattle.pd_restore.proofs.ComingLemmas.{made_coming, made_pool}
 use Rattle.pd_restore.proofs.PoolLemmas.{writes_of}
 use Rattle.pd_restore.proofs.saved.write_saved.Goals as goal
 
-pub new-requires : goal.new-requires
-new-requires g c = pool_small first_line c.args.pool.now (made_pool c.args.pool.now c.args.lines.now c.requires.made.reads)
+pub start-requires-clause-blocks : goal.start-requires-clause-blocks
+start-requires-clause-blocks g c =
+    let shared = g.G.Gathering.shared in
+    pool_small (version_line shared) c.args.pool.now (made_pool shared c.args.pool.now (g.L.Giving.coming c.args.lines.now) c.requires.made.reads)
 
 pub take_all-requires-clause-made : goal.take_all-requires-clause-made
 take_all-requires-clause-made g c =
     let a = draft_state c.args.draft.now in
     let p = c.args.pool.now in
+    let shared = g.G.Gathering.shared in
+    let coming = g.L.Giving.coming c.args.lines.now in
     record {
-      before = made_begun p;
+      before = made_begun shared p;
       start = a;
-      so_far = made_coming p c.args.room c.args.lines.now c.in-Ok.devices a c.requires.made (c.in-Ok.ensures (head_of_pool p) a refl c.requires.made.place c.requires.closed);
+      so_far = made_coming g.G.Gathering.HasGathered shared p c.args.room coming c.in-Ok.gathered a c.requires.made (c.in-Ok.ensures (head_of_pool p) a refl c.requires.made.place c.requires.closed);
     }
 
 pub returns-in_err-take_all-clause-says : goal.returns-in_err-take_all-clause-says
 returns-in_err-take_all-clause-says g c left t is =
     let a = draft_state c.args.draft.now in
     let p = c.args.pool.now in
-    let coming = made_coming p c.args.room c.args.lines.now c.in-Ok.devices a c.requires.made (c.in-Ok.ensures (head_of_pool p) a refl c.requires.made.place c.requires.closed) in
-    let says = c.in_err-take_all.ensures.says (made_begun p) a coming left t is in
+    let shared = g.G.Gathering.shared in
+    let coming = g.L.Giving.coming c.args.lines.now in
+    let have = made_coming g.G.Gathering.HasGathered shared p c.args.room coming c.in-Ok.gathered a c.requires.made (c.in-Ok.ensures (head_of_pool p) a refl c.requires.made.place c.requires.closed) in
+    let says = c.in_err-take_all.ensures.says (made_begun shared p) a have left t is in
     search rules
 
 pub write_rest-requires-clause-whole : goal.write_rest-requires-clause-whole
 write_rest-requires-clause-whole g c =
     let a = draft_state c.args.draft.now in
     let p = c.args.pool.now in
-    let coming = made_coming p c.args.room c.args.lines.now c.in-Ok.devices a c.requires.made (c.in-Ok.ensures (head_of_pool p) a refl c.requires.made.place c.requires.closed) in
-    let e = c.in_ok-take_all.ensures.all (made_begun p) a coming None in
+    let shared = g.G.Gathering.shared in
+    let coming = g.L.Giving.coming c.args.lines.now in
+    let have = made_coming g.G.Gathering.HasGathered shared p c.args.room coming c.in-Ok.gathered a c.requires.made (c.in-Ok.ensures (head_of_pool p) a refl c.requires.made.place c.requires.closed) in
+    let e = c.in_ok-take_all.ensures.all (made_begun shared p) a have None in
     record { lines = e.lines; start = a; all = e.all }
 
 pub returns-clause-writes : goal.returns-clause-writes
 returns-clause-writes g c left =
     let a = draft_state c.args.draft.now in
     let p = c.args.pool.now in
-    let coming = made_coming p c.args.room c.args.lines.now c.in-Ok.devices a c.requires.made (c.in-Ok.ensures (head_of_pool p) a refl c.requires.made.place c.requires.closed) in
-    let e = c.in_ok-take_all.ensures.all (made_begun p) a coming left in
-    writes_of e.lines c.args.room left a (draft_state c.write_rest.new.draft) (IsTextOf (made_begun p) c.args.lines.now left) e.told c.write_rest.result
-    (c.write_rest.ensures.writes first_line e.lines e.later left a e.front e.all)
+    let shared = g.G.Gathering.shared in
+    let coming = g.L.Giving.coming c.args.lines.now in
+    let have = made_coming g.G.Gathering.HasGathered shared p c.args.room coming c.in-Ok.gathered a c.requires.made (c.in-Ok.ensures (head_of_pool p) a refl c.requires.made.place c.requires.closed) in
+    let e = c.in_ok-take_all.ensures.all (made_begun shared p) a have left in
+    writes_of e.lines c.args.room left a (draft_state c.write_rest.new.draft) (IsTextOf (made_begun shared p) coming left) e.told c.write_rest.result
+    (c.write_rest.ensures.writes (version_line shared) e.lines e.later left a e.front e.all)
 
 pub returns-clause-says : goal.returns-clause-says
 returns-clause-says g c left t is = end_says pool_format pool_need_so_far c.write_rest.result c.args.room t c.write_rest.ensures.build

@@ -1,6 +1,6 @@
 use Rattle.std.proofs.Common.{arith}
 use Rattle.pd_draft.specs.DraftState.{draft_state}
-use Rattle.pd_restore.specs.declared.begin.Rest.TheVariants.{Text, Saved}
+use Rattle.pd_restore.specs.declared.begin.Rest.TheVariants.{Text, Saved, Shape}
 use Rattle.pd_restore.specs.Whole.{begun_lines, head_of_pool}
 use Rattle.pd_restore.proofs.BeginLemmas.{first_version, second_version}
 use Rattle.pd_restore.proofs.PoolLemmas.{rest_writes}
@@ -34,6 +34,15 @@ write_text-requires-clause-begun g c =
       there = c.requires.there;
     }
 
+pub write_saved-requires-in-Shape-clause-made : goal.write_saved-requires-in-Shape-clause-made
+write_saved-requires-in-Shape-clause-made g c = record {
+  reads = rw c.in-Shape.is at c.requires.stands;
+  place = c.requires.place;
+  need = rw c.in-Shape.is at c.requires.need;
+  most = c.requires.most;
+  there = c.requires.there;
+}
+
 pub write_saved-requires-clause-made : goal.write_saved-requires-clause-made
 write_saved-requires-clause-made g c = record {
   reads = rw c.in-Saved.is at c.requires.stands;
@@ -55,6 +64,12 @@ returns-in-Text-clause-writes g c =
 
 pub returns-clause-writes : goal.returns-clause-writes
 returns-clause-writes g c =
+    let left = (g.S.Source.state c.args.source.now).left in
+    rest_writes c.args.begun.pool c.args.begun.rest (Shape c.in-Shape.lines) c.args.room left left
+    (draft_state c.args.draft.now) (draft_state c.write_saved-in-Shape.new.draft) c.write_saved-in-Shape.result c.in-Shape.is (c.write_saved-in-Shape.ensures.writes left)
+
+pub returns-in-Saved-clause-writes : goal.returns-in-Saved-clause-writes
+returns-in-Saved-clause-writes g c =
     let left = (g.S.Source.state c.args.source.now).left in
     rest_writes c.args.begun.pool c.args.begun.rest (Saved c.in-Saved.lines) c.args.room left left
     (draft_state c.args.draft.now) (draft_state c.write_saved.new.draft) c.write_saved.result c.in-Saved.is (c.write_saved.ensures.writes left)

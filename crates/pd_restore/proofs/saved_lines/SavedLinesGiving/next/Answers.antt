@@ -4,7 +4,7 @@ use Rattle.std.proofs.lemmas.Option.{IfSome_then}
 use Rattle.pd_spells.specs.ThinText.{Line}
 use Rattle.pd_restore.specs.SavedLines.{lines_at}
 use Rattle.pd_restore.proofs.SavedTextLemmas.{run_first, no_run, drop_there, drop_past}
-use Rattle.pd_restore.proofs.saved_lines.SavedLines.next.Goals as goal
+use Rattle.pd_restore.proofs.saved_lines.SavedLinesGiving.next.Goals as goal
 
 pub returns-in-Some-clause-some : goal.returns-in-Some-clause-some
 returns-in-Some-clause-some c =

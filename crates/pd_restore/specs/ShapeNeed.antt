@@ -1,0 +1,65 @@
+-- What a saved shape needs, by its pieces and runs.
+use Rattle.std.specs.Prelude.{◌≡◌, ℕ, ◌+◌, ◌<◌, List, [], ◌∷◌, length, map, take, drop, sum_by}
+use Rattle.std.specs.List.{flat_map}
+use Rattle.pd_laid.specs.Shape.{uses_of_piece}
+use Rattle.pd_shapes.specs.SharedNeed.{own_number}
+use Rattle.pd_shapes.specs.SharedText.{PartPiece, SharedPart, piece_of_part}
+use Rattle.pd_shared_devices.specs.Growth.{need_ended}
+use Rattle.pd_spells.specs.Need.{nodes_for}
+use Rattle.pd_thin_meaning.specs.declared.joined.Run.{Run}
+use Rattle.pd_salvage.specs.declared.saved_shape.SavedPiece.{SavedPiece}
+use Rattle.pd_salvage.specs.declared.saved_shape.SavedPiece.TheVariants.{Own, Shared}
+use Rattle.pd_salvage.specs.declared.saved_shape.ShapedDevice.{ShapedDevice}
+use Rattle.pd_salvage.specs.SavedShape.{device_parts, piece_parts, runs_of_piece, runs_of_pieces}
+use Rattle.pd_restore.specs.declared.shape_need.LeafCounts.{LeafCounts}
+use Rattle.pd_restore.specs.declared.shape_need.TreeCounts.{TreeCounts}
+
+-- the leaf that a piece uses
+abbrev pub uses_of_saved : SavedPiece → List ℕ
+uses_of_saved (Own runs) = []
+uses_of_saved (Shared number) = number ∷ []
+
+abbrev pub IsUseBelow : ℕ → SavedPiece → Type 0
+IsUseBelow leaves (Own runs) = Unit {0}
+IsUseBelow leaves (Shared number) = number < leaves
+
+-- how many leaves some pieces have of their own, and how many they use
+unfoldable pub own_leaves : List PartPiece → ℕ
+own_leaves parts = sum_by (λ n. nodes_for 252 n) (flat_map own_number (map piece_of_part parts))
+
+unfoldable pub uses_number : List PartPiece → ℕ
+uses_number parts = length (flat_map uses_of_piece (map piece_of_part parts))
+
+-- the blocks of the trees of some devices besides the shared leaves
+abbrev pub tree_of_part : SharedPart → ℕ
+tree_of_part part = need_ended (own_leaves part.pieces) (uses_number part.pieces)
+
+unfoldable pub trees_of_parts : List SharedPart → ℕ
+trees_of_parts parts = sum_by tree_of_part parts
+
+-- these are the numbers of some pieces, whose runs come first; and those with a piece more, whose runs come next
+pub record CountsPieces (pieces : List SavedPiece) (runs : List Run) (c : LeafCounts) : Type 0 where
+  pub own : c.own ≡ own_leaves (piece_parts pieces runs)
+  pub uses : c.uses ≡ uses_number (piece_parts pieces runs)
+  pub taken : c.runs ≡ runs_of_pieces pieces
+
+pub record AddsPiece (old : LeafCounts) (piece : SavedPiece) (runs : List Run) (c : LeafCounts) : Type 0 where
+  pub own : c.own ≡ old.own + own_leaves (piece_parts (piece ∷ []) (drop old.runs runs))
+  pub uses : c.uses ≡ old.uses + uses_number (piece_parts (piece ∷ []) (drop old.runs runs))
+  pub taken : c.runs ≡ old.runs + runs_of_piece piece
+
+-- the same with a device more, whose pieces and runs come next
+pub record AddsDevice (old : TreeCounts) (d : ShapedDevice) (pieces : List SavedPiece) (runs : List Run) (c : TreeCounts) : Type 0 where
+  pub trees : c.trees ≡ old.trees + trees_of_parts (device_parts (d ∷ []) (drop old.pieces pieces) (drop old.runs runs))
+  pub met : c.pieces ≡ old.pieces + d.pieces
+  pub taken : c.runs ≡ old.runs + runs_of_pieces (take d.pieces (drop old.pieces pieces))
+
+-- how many pieces some devices have
+abbrev pub pieces_of : List ShapedDevice → ℕ
+pieces_of devices = sum_by (λ (d : ShapedDevice). d.pieces) devices
+
+-- these are the numbers of some devices, whose pieces and runs come first
+pub record CountsDevices (devices : List ShapedDevice) (pieces : List SavedPiece) (runs : List Run) (c : TreeCounts) : Type 0 where
+  pub trees : c.trees ≡ trees_of_parts (device_parts devices pieces runs)
+  pub met : c.pieces ≡ pieces_of devices
+  pub taken : c.runs ≡ runs_of_pieces (take (pieces_of devices) pieces)

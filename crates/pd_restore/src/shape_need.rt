@@ -1,0 +1,209 @@
+//! How many blocks a saved shape needs.
+
+ghost use Rattle.std.specs.Prelude.{◌≡◌, ◌+◌, ◌≤◌, ℕ, List, ◌++◌, map, IfOk, IfSome, OnOk};
+ghost use Rattle.std.specs.List.{AllByRecursion, flat_map};
+ghost use Rattle.pd_thin_meaning.specs.declared.joined.Run.{Run as SavedRun};
+ghost use Rattle.pd_thin_meaning.specs.Joined.{spelled};
+ghost use Rattle.pd_salvage.specs.SavedShape.{device_parts, held_shape};
+ghost use Rattle.pd_shapes.specs.SharedNeed.{shape_need};
+ghost use Rattle.pd_spells.specs.ThinNeed.{overflows_in};
+ghost use Rattle.pd_restore.specs.Overflowing.{HasCountedThrice, data_of_runs};
+ghost use Rattle.pd_spells.specs.ThinText.{number_in};
+ghost use Rattle.pd_restore.specs.ShapeNeed.{AddsDevice, AddsPiece, IsUseBelow, CountsPieces, trees_of_parts, uses_of_saved};
+
+use crate::overflowing::Thrice;
+use pd_salvage::{SavedPiece, SavedShape, ShapedDevice};
+use pd_shared_devices::{NeedCounts, leaves_for, need_of, tree_ended};
+use pd_thin_meaning::Run;
+use std::alloc::{AllocError, Global};
+
+/// The most leaves that are counted of a device.
+const MOST: u64 = 1 << 62;
+
+/// How many blocks the shape needs, where there are so many for metadata. `None` where memory is wanting: a number that
+/// doesn't fit its type is that of a shape for whose metadata there is no memory.
+pub fn need_of_shape(alloc: Global, saved: &SavedShape, room: u64) -> Option<u64>
+    ensures { IfSome result (λ need. need ≡ shape_need (held_shape saved.now) room) }
+{
+    let blocks = saved.head().blocks;
+    let leaves = saved.leaves().len() as u64;
+    let over = match over_of(alloc, blocks, saved.leaf_runs(), saved.runs()) {
+        Ok(over) => over,
+        Err(_) => return None,
+    };
+    let often = match often_of(alloc, leaves, saved.pieces()) {
+        Ok(often) => often,
+        Err(_) => return None,
+    };
+    let Some(trees) = trees_of(saved.devices(), saved.pieces(), saved.runs()) else {
+        return None;
+    };
+    let counts = NeedCounts {
+        leaves,
+        often,
+        trees,
+        begun: 0,
+        devices: saved.devices().len() as u64,
+        blocks,
+        over,
+    };
+    let need = need_of(counts, room);
+    if need < u64::MAX { Some(need) } else { None }
+}
+
+/// How many of so many data blocks stand three times or more in these runs and in those.
+fn over_of(alloc: Global, blocks: u64, runs: &[Run], others: &[Run]) -> Result<u64, AllocError>
+    requires runs { AllByRecursion (λ (r : SavedRun). r.target + r.length ≤ blocks) runs.now }
+    requires others { AllByRecursion (λ (r : SavedRun). r.target + r.length ≤ blocks) others.now }
+    ensures { IfOk result (λ over. over ≡ overflows_in (data_of_runs runs.now ++ data_of_runs others.now) blocks) }
+{
+    let mut counted = Thrice::new(alloc, blocks)?;
+    counted.add_runs(runs)?;
+    counted.add_runs(others)?;
+    Ok(counted.over())
+}
+
+/// How many of so many leaves these pieces use three times or more.
+fn often_of(alloc: Global, leaves: u64, pieces: &[SavedPiece]) -> Result<u64, AllocError>
+    requires { AllByRecursion (IsUseBelow leaves) pieces.now }
+    ensures { IfOk result (λ often. often ≡ overflows_in (flat_map uses_of_saved pieces.now) leaves) }
+{
+    let mut counted = Thrice::new(alloc, leaves)?;
+    for piece in pieces {
+        count_use(&mut counted, piece)?;
+    }
+    Ok(counted.over())
+}
+
+/// Counts the leaf that a piece uses once more, where it uses one.
+fn count_use(counted: &mut Thrice, piece: &SavedPiece) -> Result<(), AllocError>
+    requires { IsUseBelow counted.old.counts.size piece.now }
+    ensures size { OnOk result (counted.new.counts.size ≡ counted.old.counts.size) }
+    ensures listed { (before : List ℕ) → HasCountedThrice counted.old.counts before
+        → OnOk result (HasCountedThrice counted.new.counts (before ++ uses_of_saved piece.now)) }
+{
+    match piece {
+        SavedPiece::Own(_) => Ok(()),
+        SavedPiece::Shared(number) => counted.add(*number as u64),
+    }
+}
+
+/// The trees of some devices: how many blocks they have besides the shared leaves, and how many pieces and runs they take.
+#[derive(Clone, Copy)]
+struct TreeCounts {
+    trees: u64,
+    pieces: usize,
+    runs: usize,
+}
+
+/// How many blocks the trees of these devices have besides the shared leaves, where that fits.
+fn trees_of(devices: &[ShapedDevice], pieces: &[SavedPiece], runs: &[Run]) -> Option<u64>
+    ensures { IfSome result (λ trees. trees ≡ trees_of_parts (device_parts devices.now pieces.now runs.now)) }
+{
+    let mut counts = TreeCounts {
+        trees: 0,
+        pieces: 0,
+        runs: 0,
+    };
+    for device in devices {
+        match with_device(counts, device, pieces, runs) {
+            Some(more) => counts = more,
+            None => return None,
+        }
+    }
+    Some(counts.trees)
+}
+
+/// The same with a device more, whose pieces and runs come next.
+fn with_device(
+    counts: TreeCounts,
+    device: &ShapedDevice,
+    pieces: &[SavedPiece],
+    runs: &[Run],
+) -> Option<TreeCounts>
+    ensures { IfSome result (AddsDevice counts device.now pieces.now runs.now) }
+{
+    let end = counts.pieces.checked_add(device.pieces)?;
+    if end > pieces.len() {
+        return None;
+    }
+    if counts.runs > runs.len() {
+        return None;
+    }
+    let leaves = leaves_of(&pieces[counts.pieces..end], &runs[counts.runs..])?;
+    if leaves.own > MOST || leaves.uses > MOST {
+        return None;
+    }
+    Some(TreeCounts {
+        trees: counts
+            .trees
+            .checked_add(tree_ended(leaves.own, leaves.uses))?,
+        pieces: end,
+        runs: counts.runs.checked_add(leaves.runs)?,
+    })
+}
+
+/// The leaves of some pieces: how many are a device's own, how many it uses, and how many runs the pieces take.
+#[derive(Clone, Copy)]
+struct LeafCounts {
+    own: u64,
+    uses: u64,
+    runs: usize,
+}
+
+/// The leaves of these pieces, whose runs come first, where they fit.
+fn leaves_of(pieces: &[SavedPiece], runs: &[Run]) -> Option<LeafCounts>
+    ensures { IfSome result (CountsPieces pieces.now runs.now) }
+{
+    let mut counts = LeafCounts {
+        own: 0,
+        uses: 0,
+        runs: 0,
+    };
+    for piece in pieces {
+        match with_piece(counts, piece, runs) {
+            Some(more) => counts = more,
+            None => return None,
+        }
+    }
+    Some(counts)
+}
+
+/// The same with a piece more, whose runs come next.
+fn with_piece(counts: LeafCounts, piece: &SavedPiece, runs: &[Run]) -> Option<LeafCounts>
+    ensures { IfSome result (AddsPiece counts piece.now runs.now) }
+{
+    match piece {
+        SavedPiece::Own(number) => {
+            let end = counts.runs.checked_add(*number as usize)?;
+            if end > runs.len() {
+                return None;
+            }
+            let mappings = mappings_of(&runs[counts.runs..end])?;
+            Some(LeafCounts {
+                own: counts.own.checked_add(leaves_for(mappings))?,
+                uses: counts.uses,
+                runs: end,
+            })
+        }
+        SavedPiece::Shared(_) => Some(LeafCounts {
+            own: counts.own,
+            uses: counts.uses.checked_add(1)?,
+            runs: counts.runs,
+        }),
+    }
+}
+
+/// How many mappings these runs are, where their number fits.
+fn mappings_of(runs: &[Run]) -> Option<u64>
+    ensures { IfSome result (λ mappings. mappings ≡ number_in (map spelled runs.now)) }
+{
+    let mut mappings: u64 = 0;
+    for run in runs {
+        match mappings.checked_add(run.length) {
+            Some(more) => mappings = more,
+            None => return None,
+        }
+    }
+    Some(mappings)
+}

@@ -1,0 +1,39 @@
+//! A row of elements of a list, taken one by one.
+
+ghost use Rattle.std.specs.Prelude.{◌≡◌, ◌∷◌, ◌+◌, ◌<◌, [], IfNone, IfSome};
+
+/// So many elements from this one on.
+#[derive(Clone, Copy)]
+pub(crate) struct Span {
+    pub(crate) at: usize,
+    pub(crate) left: usize,
+}
+
+impl Span {
+    ghost use Rattle.pd_restore.specs.Spans.{in_span, behind};
+
+    /// The next element, or none where there is none more. What stands behind the row stays.
+    pub(crate) fn next<T: Copy>(&mut self, items: &[T]) -> Option<T>
+        ensures some { IfSome result (λ item. in_span self.old items.now ≡ item ∷ in_span self.new items.now) }
+        ensures at { IfSome result (λ item. self.new.at ≡ self.old.at + 1) }
+        ensures fewer { IfSome result (λ item. self.new.left < self.old.left) }
+        ensures none { IfNone result (in_span self.old items.now ≡ []) }
+        ensures ended { IfNone result (self.new.left ≡ 0) }
+        ensures behind { behind self.new items.now ≡ behind self.old items.now }
+    {
+        if self.left == 0 {
+            return None;
+        }
+        match items.get(self.at) {
+            Some(item) => {
+                self.at += 1;
+                self.left -= 1;
+                Some(*item)
+            }
+            None => {
+                self.left = 0;
+                None
+            }
+        }
+    }
+}
