@@ -67,7 +67,7 @@ module _ (fields : ThinFields) (image : List (List ℕ)) where
   saved v = saved_of_visit fields image v
 
   -- a whole visit saves the mappings of its leaf
-  whole_saves : (v : Visit) → is_whole_visit fields image v ≡ true → saved v ≡ mappings_in image v.leaf
+  pub whole_saves : (v : Visit) → is_whole_visit fields image v ≡ true → saved v ≡ mappings_in image v.leaf
   whole_saves v whole =
       let entries = leaf_entries 8 (block_at image v.leaf) in
       let met = entries_of_visit 8 image v in

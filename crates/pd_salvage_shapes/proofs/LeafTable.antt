@@ -1,0 +1,136 @@
+-- The leaves that were met whole stand in the table of notes, and what was met of them is theirs.
+use Rattle.std.proofs.Common.{◌≡◌, inl, inr, ℕ, ◌+◌, ◌-◌, ◌≤◌, true, cond, nat_eq, get_or, List, [], ◌∷◌, ◌++◌, length, map, count_by, Option, Some, None, refl, sym, ap, ◌∙◌, subst, arith}
+use Rattle.std.specs.List.{AllByRecursion, slice_get}
+use Rattle.std.proofs.lemmas.Bool.{cases_Bool, cases_lt, eqb-true}
+use Rattle.std.proofs.lemmas.Option.{none-some}
+use Rattle.std.proofs.lemmas.List.Sums.{sum_by-append}
+use Rattle.pd_kinds.specs.Meaning.{Mapping}
+use Rattle.pd_spells.specs.ThinText.{joined_runs}
+use Rattle.pd_thin_meaning.specs.Joined.{spelled}
+use Rattle.pd_salvage_shapes.specs.declared.note.Note.{Note}
+use Rattle.pd_salvage_shapes.specs.declared.visiting.Seen.{Seen}
+use Rattle.pd_salvage_shapes.specs.Mets.{Met, met_of}
+use Rattle.pd_salvage_shapes.specs.Note.{IsNote, met_of_note, noted}
+use Rattle.pd_salvage_shapes.specs.Shared.{leaf_maps, leaf_runs, note_at}
+use Rattle.pd_salvage_shapes.specs.Uses.{all_mets, leaves_of}
+use Rattle.pd_salvage_shapes.specs.Visiting.{AreNotes, mets_at, mets_of}
+use Rattle.pd_salvage_shapes.proofs.ShapeLemmas.{HasItsMappings}
+use Rattle.pd_salvage_shapes.proofs.UseLemmas.{leaves_append, no_leaves}
+
+module _ (blocks : ℕ) (places : List ℕ) (notes : List Note) (are : AreNotes blocks places notes) where
+  abbrev f : ℕ → List Mapping
+  f b = leaf_maps places notes b
+
+  -- the note of a whole leaf
+  pub record IsLeaf (b : ℕ) : Type 0 where
+    pub note : Note
+    pub number : ℕ
+    pub at : slice_get notes number ≡ Some note
+    pub full : note.full ≡ true
+    pub block : note.block ≡ b
+
+  pub leaf_of : (k : ℕ) (note : Note) → slice_get notes k ≡ Some note → note.full ≡ true → note_at places notes note.block ≡ Some note
+  leaf_of k note at full =
+      let placed = are.placed k note at full in
+      let same : get_or places note.block 0 - 1 ≡ k = omega arith in
+      rw same at
+
+  pub leaf_runs_are : (b : ℕ) (leaf : IsLeaf b) → leaf_runs places notes b ≡ leaf.note.runs.items
+  leaf_runs_are b leaf =
+      let at : note_at places notes b ≡ Some leaf.note = subst (λ (c : ℕ). note_at places notes c ≡ Some leaf.note) leaf.block (leaf_of leaf.number leaf.note leaf.at leaf.full) in
+      rw at refl
+
+  pub leaf_is : (b : ℕ) (leaf : IsLeaf b) → f b ≡ noted leaf.note
+  leaf_is b leaf = rw (leaf_runs_are b leaf) refl
+
+  -- what was met of a leaf is its
+  note_true : (note : Note) (k : ℕ) → slice_get notes k ≡ Some note → AllByRecursion (HasItsMappings f) (met_of_note note)
+  note_true note k at = all_true (noted note) refl
+    where
+      is_block : (b : ℕ) → cond note.full (Some note.block) None ≡ Some b → (note.full ≡ true) × (note.block ≡ b)
+      is_block b is = elim (cases_Bool note.full) [
+        | inl full ↦ let same = rw full at is in (full, (cc))
+        | inr part ↦ absurd (none-some b (rw part at is))
+      ]
+
+      all_true : (ms : List Mapping) → noted note ≡ ms → AllByRecursion (HasItsMappings f) (met_of (cond note.full (Some note.block) None) ms)
+      all_true [] is = tt
+      all_true (m ∷ ms) is = (
+        λ b leaf.
+            let both = is_block b leaf in
+            sym is ∙ sym (leaf_is b (record { note = note; number = k; at = at; full = both.0; block = both.1 })),
+        tt,
+      )
+
+  at_true : (k : ℕ) (o : Option Note) → slice_get notes k ≡ o → AllByRecursion (HasItsMappings f) (mets_at o)
+  at_true k None is = tt
+  at_true k (Some note) is = note_true note k is
+
+  both_true : (xs ys : List Met) → AllByRecursion (HasItsMappings f) xs → AllByRecursion (HasItsMappings f) ys → AllByRecursion (HasItsMappings f) (xs ++ ys)
+  both_true [] ys first last = last
+  both_true (x ∷ xs) ys first last = (first.0, both_true xs ys first.1 last)
+
+  pub mets_true : (ks : List ℕ) → AllByRecursion (HasItsMappings f) (mets_of notes ks)
+  mets_true [] = tt
+  mets_true (k ∷ ks) = both_true (mets_at (slice_get notes k)) (mets_of notes ks) (at_true k (slice_get notes k) refl) (mets_true ks)
+
+  pub all_mets_true : (seen : List Seen) → AllByRecursion (HasItsMappings f) (all_mets notes seen)
+  all_mets_true [] = tt
+  all_mets_true (d ∷ seen) = both_true (mets_of notes d.met.items) (all_mets notes seen) (mets_true d.met.items) (all_mets_true seen)
+
+  -- a leaf that was met stands in the table
+  module _ (b : ℕ) where
+    abbrev counted : List ℕ → ℕ
+    counted xs = count_by (λ c. nat_eq c b) xs
+
+    counted_both : (xs ys : List ℕ) → counted (xs ++ ys) ≡ counted xs + counted ys
+    counted_both xs ys = sum_by-append (λ c. cond {A = ℕ} (nat_eq c b) 1 0) xs ys
+
+    note_stands : (note : Note) (k : ℕ) → slice_get notes k ≡ Some note → 1 ≤ counted (leaves_of (met_of_note note)) → IsLeaf b
+    note_stands note k at some = elim (cases_Bool note.full) [
+      | inl full ↦ record { note = note; number = k; at = at; full = full; block = same_block (noted note) (rw full at some) }
+      | inr part ↦ let none = rw (no_leaves note part) at some in absurd (omega arith)
+    ]
+      where
+        same_block : (ms : List Mapping) → 1 ≤ counted (leaves_of (met_of (Some note.block) ms)) → note.block ≡ b
+        same_block [] some = absurd (omega arith)
+        same_block (m ∷ ms) some = elim (cases_Bool (nat_eq note.block b)) [
+          | inl same ↦ eqb-true note.block b same
+          | inr other ↦ let none : counted (note.block ∷ []) ≡ 0 = rw other refl in absurd (omega arith)
+        ]
+
+    at_stands : (k : ℕ) (o : Option Note) → slice_get notes k ≡ o → 1 ≤ counted (leaves_of (mets_at o)) → IsLeaf b
+    at_stands k None is some = absurd (omega arith)
+    at_stands k (Some note) is some = note_stands note k is some
+
+    mets_stand : (ks : List ℕ) → 1 ≤ counted (leaves_of (mets_of notes ks)) → IsLeaf b
+    mets_stand [] some = absurd (omega arith)
+    mets_stand (k ∷ ks) some =
+        let split = ap counted (leaves_append (mets_at (slice_get notes k)) (mets_of notes ks)) ∙ counted_both (leaves_of (mets_at (slice_get notes k))) (leaves_of (mets_of notes ks)) in
+        elim (cases_lt 0 (counted (leaves_of (mets_at (slice_get notes k))))) [
+          | inl here ↦ at_stands k (slice_get notes k) refl here
+          | inr later ↦ mets_stand ks (omega arith)
+        ]
+
+    pub all_stand : (seen : List Seen) → 1 ≤ counted (leaves_of (all_mets notes seen)) → IsLeaf b
+    all_stand [] some = absurd (omega arith)
+    all_stand (d ∷ seen) some =
+        let split = ap counted (leaves_append (mets_of notes d.met.items) (all_mets notes seen)) ∙ counted_both (leaves_of (mets_of notes d.met.items)) (leaves_of (all_mets notes seen)) in
+        elim (cases_lt 0 (counted (leaves_of (mets_of notes d.met.items)))) [
+          | inl here ↦ mets_stand d.met.items here
+          | inr later ↦ all_stand seen (omega arith)
+        ]
+
+  -- it has 1 to 252 mappings, in runs as long as can be
+  module _ (b : ℕ) (leaf : IsLeaf b) where
+    is_note : IsNote blocks leaf.note
+    is_note = are.each leaf.number leaf.note leaf.at
+
+    pub leaf_some : 1 ≤ length (f b)
+    leaf_some = rw (leaf_is b leaf) (let sized = is_note.sized leaf.full in let counted = is_note.counted in omega (arith, sized.0, counted))
+
+    pub leaf_few : length (f b) ≤ 252
+    leaf_few = rw (leaf_is b leaf) (let sized = is_note.sized leaf.full in let counted = is_note.counted in omega (arith, sized.1, counted))
+
+    pub leaf_joined : joined_runs (f b) ≡ map spelled (leaf_runs places notes b)
+    leaf_joined = rw (leaf_runs_are b leaf) is_note.joined

@@ -1,0 +1,21 @@
+use Rattle.std.proofs.Common.{refl, arith}
+use Rattle.pd_tree.proofs.StackLemmas.{weigh_same}
+use Rattle.pd_tree.specs.Stack.{last_place}
+use Rattle.pd_salvage_shapes.proofs.WayLemmas.{pushed_left, pushed_under}
+use Rattle.pd_salvage_shapes.proofs.way.Way.push.Goals as goal
+
+pub returns-clause-pushes : goal.returns-clause-pushes
+returns-clause-pushes g c =
+    let old = c.args.self.now in
+    let pushes = c.in_ok-push.ensures.pushes in
+    record {
+      depth = c.in_ok-push.ensures.depth;
+      read = pushes.read;
+      first = pushes.whole;
+      under = λ fields image. pushed_under fields image old.ranges.items old.stack.places.items c.push.new.self.places.items old.stack.depth c.depth.result c.args.range c.depth.ensures pushes.places;
+      left = λ fields image.
+          pushed_left fields image old.ranges.items old.stack.places.items c.push.new.self.places.items old.stack.depth c.depth.result c.args.range c.depth.ensures pushes.places
+          c.push.new.self.depth (last_place c.push.new.self) c.in_ok-push.ensures.depth refl (omega arith);
+      number = c.in_ok-push.ensures.number;
+      number_under = weigh_same 8 old.stack.places.items c.push.new.self.places.items old.stack.depth pushes.places;
+    }

@@ -1,0 +1,11 @@
+pub mod Mets
+pub mod Note
+pub mod Pieces
+pub mod Tops
+pub mod Uses
+pub mod Devices
+pub mod SeenShape
+pub mod Seen
+pub mod Shared
+pub mod Way
+pub mod Visiting

@@ -1,0 +1,25 @@
+-- What was met of devices.
+use Rattle.std.specs.Prelude.{◌≡◌, ℕ, List, length, map, Option, IfSome}
+use Rattle.std.specs.List.{AllByRecursion}
+use Rattle.pd_kinds.specs.ThinSuper.{ThinFields}
+use Rattle.pd_salvage_shapes.specs.declared.note.Note.{Note}
+use Rattle.pd_salvage_shapes.specs.declared.tops.Top.{Top}
+use Rattle.pd_salvage_shapes.specs.declared.visiting.Seen.{Seen}
+use Rattle.pd_salvage_shapes.specs.declared.visiting.Visiting.{Visiting}
+use Rattle.pd_salvage_shapes.specs.Mets.{Met, mets_of_root}
+use Rattle.pd_salvage_shapes.specs.Visiting.{HasTable, IsSeen, TellsAll, mets_of}
+
+-- what was met of each
+abbrev pub mets_of_seen : List Note → List Seen → List (List Met)
+mets_of_seen notes seen = map (λ (d : Seen). mets_of notes d.met.items) seen
+
+abbrev pub mets_of_tops : ThinFields → List (List ℕ) → List Top → List (List Met)
+mets_of_tops fields image tops = map (λ (t : Top). mets_of_root fields image t.root) tops
+
+-- devices were seen: what was met of each is lawful, and it is what is met of each where the device tells
+pub record SeesAll (held : Option (List (List ℕ))) (tops : List Top) (seen : List Seen) (old new : Visiting) : Type 0 where
+  pub same : new.s ≡ old.s
+  pub table : HasTable new
+  pub number : length seen ≡ length tops
+  pub lawful : AllByRecursion (IsSeen old.s.data_map.blocks new.notes.items) seen
+  pub told : IfSome held (λ image. TellsAll image old → TellsAll image new × (mets_of_seen new.notes.items seen ≡ mets_of_tops old.s image tops))

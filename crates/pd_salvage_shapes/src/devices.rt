@@ -1,0 +1,80 @@
+//! Devices with their pieces.
+
+ghost use Rattle.std.specs.Prelude.{◌≡◌, ◌<◌, ◌≤◌, ℕ, List, length, IfOk};
+ghost use Rattle.pd_salvage_shapes.specs.Devices.{AreShaped};
+ghost use Rattle.pd_salvage_shapes.specs.Pieces.{AreNumbers};
+ghost use Rattle.pd_salvage_shapes.specs.Uses.{AllWithin, AreSized};
+
+use crate::note::Note;
+use crate::pieces::Piecing;
+use crate::tops::Top;
+use crate::visiting::Seen;
+use pd_salvage::ShapedDevice;
+use pd_value::Details;
+use std::alloc::{AllocError, Global};
+
+/// Devices, and the pieces and runs of all of them.
+#[derive(Drop)]
+pub(crate) struct ShapedDevices {
+    pub(crate) devices: Vec<ShapedDevice>,
+    pub(crate) piecing: Piecing,
+}
+
+impl ShapedDevices {
+    ghost use Rattle.std.specs.Prelude.{◌≡◌, ◌<◌, ℕ, List, length, OnOk};
+    ghost use Rattle.pd_salvage_shapes.specs.Devices.{AddsDevice};
+    ghost use Rattle.pd_salvage_shapes.specs.Pieces.{IsIdle};
+    ghost use Rattle.pd_salvage_shapes.specs.Uses.{AreSized, AreWithin};
+
+    /// Adds a device with what it met.
+    fn add(
+        &mut self,
+        notes: &[Note],
+        numbers: &[u32],
+        top: &Top,
+        seen: &Seen,
+    ) -> Result<(), AllocError>
+        requires sized { AreSized (length numbers.now) notes.now }
+        requires within { AreWithin notes.now seen.now.met.items }
+        requires idle { IsIdle self.old.piecing }
+        ensures { OnOk result (AddsDevice notes.now numbers.now top.now seen.now self.old self.new) }
+    {
+        let pieces = self
+            .piecing
+            .take_device(notes, numbers, seen.met.as_slice())?;
+        self.devices.push(ShapedDevice {
+            id: top.id,
+            details: Details {
+                mapped: seen.mapped,
+                transaction: top.details.transaction,
+                created: top.details.created,
+                snapped: top.details.snapped,
+            },
+            pieces,
+        })?;
+        Ok(())
+    }
+}
+
+/// The devices with the pieces of what they met.
+pub(crate) fn shape_devices(
+    alloc: Global,
+    notes: &[Note],
+    numbers: &[u32],
+    tops: &[Top],
+    seen: &[Seen],
+) -> Result<ShapedDevices, AllocError>
+    requires sized { AreSized (length numbers.now) notes.now }
+    requires within { AllWithin notes.now seen.now }
+    requires each { length seen.now ≡ length tops.now }
+    ensures { IfOk result (λ shaped. (ones : List ℕ) → AreNumbers ones numbers.now → AreShaped ones notes.now tops.now seen.now shaped) }
+{
+    let mut shaped = ShapedDevices {
+        devices: Vec::new(alloc),
+        piecing: Piecing::new(alloc),
+    };
+    for i in 0..tops.len() {
+        shaped.add(notes, numbers, &tops[i], &seen[i])?;
+    }
+    Ok(shaped)
+}

@@ -1,0 +1,122 @@
+//! The pieces of what was met of devices.
+
+ghost use Rattle.std.specs.Prelude.{◌≡◌, ◌<◌, ℕ, List, Some, None, true, false, if◌then◌else◌, length};
+ghost use Rattle.pd_salvage_shapes.specs.Pieces.{AreNumbers, above, number_of_leaf};
+
+use crate::note::Note;
+use pd_salvage::{Joining, SavedPiece};
+use pd_thin_meaning::Run;
+use std::alloc::{AllocError, Global};
+
+/// The pieces and the runs that were made, and the piece of a device's own that was begun.
+#[derive(Drop)]
+pub(crate) struct Piecing {
+    pub(crate) pieces: Vec<SavedPiece>,
+    pub(crate) runs: Vec<Run>,
+    joining: Joining,
+    /// How many runs there were when the piece was begun.
+    first: usize,
+}
+
+impl Piecing {
+    ghost use Rattle.std.specs.Prelude.{◌≡◌, ◌≤◌, List, [], length, IfOk, OnOk};
+    ghost use Rattle.pd_kinds.specs.Meaning.{Mapping};
+    ghost use Rattle.pd_thin_meaning.specs.declared.joined.Run.{Run};
+    ghost use Rattle.pd_salvage.specs.Gather.{IsJoining, Takes, mappings_of_runs};
+    ghost use Rattle.pd_salvage_shapes.specs.Devices.{TakesDevice};
+    ghost use Rattle.pd_salvage_shapes.specs.Pieces.{AreRuns, EndsOwn, IsIdle, TakesMet};
+    ghost use Rattle.pd_salvage_shapes.specs.Uses.{AreSized, AreWithin};
+
+    /// No piece.
+    pub(crate) fn new(alloc: Global) -> Piecing
+        ensures idle { IsIdle result }
+        ensures none { (result.pieces.items ≡ []) × (result.runs.items ≡ []) }
+    {
+        Piecing {
+            pieces: Vec::new(alloc),
+            runs: Vec::new(alloc),
+            joining: Joining { begun: None },
+            first: 0,
+        }
+    }
+
+    /// Takes runs of a device's own.
+    fn take_runs(&mut self, runs: &[Run]) -> Result<(), AllocError>
+        requires { AreRuns runs.now }
+        ensures takes { OnOk result (Takes (mappings_of_runs runs.now) self.old.runs.items self.new.runs.items self.old.joining self.new.joining) }
+        ensures same { (self.new.pieces ≡ self.old.pieces) × (self.new.first ≡ self.old.first) }
+    {
+        for run in runs {
+            self.joining.take(&mut self.runs, *run)?;
+        }
+        Ok(())
+    }
+
+    /// Ends the begun piece.
+    fn end_own(&mut self) -> Result<(), AllocError>
+        ensures ends { OnOk result ((before : List Run) (ms : List Mapping) → IsJoining before self.old.runs.items self.old.joining ms → self.old.first ≡ length before
+            → EndsOwn self.old self.new before ms) }
+        ensures idle { OnOk result (IsIdle self.new) }
+    {
+        self.joining.end(&mut self.runs)?;
+        self.joining = Joining { begun: None };
+        let all = self.runs.len();
+        let count = match u32::try_from(all.saturating_sub(self.first)) {
+            Ok(count) => count,
+            Err(_) => return Err(AllocError),
+        };
+        self.first = all;
+        if count > 0 {
+            self.pieces.push(SavedPiece::Own(count))?;
+        }
+        Ok(())
+    }
+
+    /// Takes a note: all of the shared leaf with the number below this, or of the device's own where this is 0.
+    fn take_met(&mut self, note: &Note, number: u32) -> Result<(), AllocError>
+        requires { AreRuns note.now.runs.items }
+        ensures { OnOk result (TakesMet note.now number self.old self.new) }
+    {
+        if number == 0 {
+            self.take_runs(note.runs.as_slice())?;
+            return Ok(());
+        }
+        self.end_own()?;
+        self.pieces.push(SavedPiece::Shared(number - 1))?;
+        Ok(())
+    }
+
+    /// Takes all that a device met, and answers how many pieces that is.
+    pub(crate) fn take_device(
+        &mut self,
+        notes: &[Note],
+        numbers: &[u32],
+        met: &[u32],
+    ) -> Result<usize, AllocError>
+        requires sized { AreSized (length numbers.now) notes.now }
+        requires within { AreWithin notes.now met.now }
+        requires idle { IsIdle self.old }
+        ensures { IfOk result (λ count. TakesDevice notes.now numbers.now met.now count self.old self.new) }
+    {
+        let before = self.pieces.len();
+        for k in met {
+            let note = &notes[*k as usize];
+            let number = number_of(note, numbers);
+            self.take_met(note, number)?;
+        }
+        Self::end_own(self)?;
+        Ok(self.pieces.len().saturating_sub(before))
+    }
+}
+
+/// One above the number of a note's leaf among the shared ones, or 0.
+fn number_of(note: &Note, numbers: &[u32]) -> u32
+    requires { note.now.full ≡ true → note.now.block < length numbers.now }
+    ensures number { (ones : List ℕ) → AreNumbers ones numbers.now → result ≡ above (number_of_leaf ones (if note.now.full then Some note.now.block else None)) }
+    ensures whole { note.now.full ≡ false → result ≡ 0 }
+{
+    if !note.full {
+        return 0;
+    }
+    numbers[note.block as usize]
+}

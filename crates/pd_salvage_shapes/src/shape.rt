@@ -1,0 +1,84 @@
+//! The shape of what can be saved of a pool.
+
+ghost use Rattle.std.specs.Prelude.{◌≡◌, ◌^◌, ◌≤◌, IfOk, IfSome, length};
+ghost use Rattle.std.specs.List.{AllByRecursion};
+ghost use Rattle.pd_image.specs.Device.{IsAttached, OnlyReads};
+ghost use Rattle.pd_shapes.specs.SavedShape.{saved_shape_from};
+ghost use Rattle.pd_salvage.specs.Faults.{CountsSalvage};
+ghost use Rattle.pd_salvage.specs.SavedShape.{held_shape};
+ghost use Rattle.pd_salvage_shapes.specs.SeenShape.{seen_shape};
+ghost use Rattle.pd_salvage_shapes.specs.Tops.{AreTops};
+ghost use Rattle.pd_salvage_shapes.specs.Visiting.{HasTable, IsSeen};
+
+use crate::devices::shape_devices;
+use crate::seen::see_all;
+use crate::shared::share;
+use crate::tops::{Top, read_tops};
+use crate::uses::count_all;
+use crate::visiting::{Seen, Visiting};
+use pd_image::Device;
+use pd_kinds::ThinSuper;
+use pd_salvage::{SalvageFault, SavedShape, head_of};
+use std::alloc::{AllocError, Global};
+
+/// What is saved of the pool with this superblock, with the leaves that its devices share.
+///
+/// An inner node is read once for each device and range of keys that isn't empty. A leaf is read once, and once more for
+/// each range that cuts it; the runs of each are held once while this works, and of each device 4 bytes a leaf.
+///
+/// Fails with `Device` where a read failed, and with `Memory` where memory wasn't found.
+pub fn salvage_shape<D: Device>(
+    alloc: Global,
+    dev: &mut D,
+    s: &ThinSuper,
+) -> Result<SavedShape, SalvageFault>
+    requires attached { IsAttached (D.state dev.old) }
+    requires some { 1 ≤ s.now.meta_map.blocks }
+    requires within { s.now.meta_map.blocks ≤ (D.state dev.old).blocks }
+    requires few { s.now.meta_map.blocks ≤ 4161600 }
+    requires data { s.now.data_map.blocks ≤ 2 ^ 40 }
+    ensures saved { IfOk result (λ saved. IfSome (D.state dev.old).held (λ image. held_shape saved ≡ saved_shape_from s.now image)) }
+    ensures kept { OnlyReads (D.state dev.old) (D.state dev.new) }
+    ensures faults { CountsSalvage result (D.state dev.old).faults (D.state dev.new).faults }
+{
+    let tops = read_tops(alloc, dev, s)?;
+    let mut visiting = match Visiting::start(alloc, s) {
+        Ok(visiting) => visiting,
+        Err(_) => return Err(SalvageFault::Memory),
+    };
+    let seen = see_all(alloc, &mut visiting, dev, tops.as_slice())?;
+    match shape_of(alloc, &visiting, tops.as_slice(), seen.as_slice()) {
+        Ok(shape) => Ok(shape),
+        Err(_) => Err(SalvageFault::Memory),
+    }
+}
+
+/// The shape of what was met of these devices.
+fn shape_of(
+    alloc: Global,
+    visiting: &Visiting,
+    tops: &[Top],
+    seen: &[Seen],
+) -> Result<SavedShape, AllocError>
+    requires few { visiting.now.s.meta_map.blocks ≤ 4161600 }
+    requires data { visiting.now.s.data_map.blocks ≤ 2 ^ 40 }
+    requires table { HasTable visiting.now }
+    requires each { length seen.now ≡ length tops.now }
+    requires seen { AllByRecursion (IsSeen visiting.now.s.data_map.blocks visiting.now.notes.items) seen.now }
+    requires tops { AreTops 0 tops.now }
+    ensures { IfOk result (λ shape. held_shape shape ≡ seen_shape visiting.now.s visiting.now.places.items visiting.now.notes.items tops.now seen.now) }
+{
+    let notes = visiting.notes.as_slice();
+    let places = visiting.places.as_slice();
+    let uses = count_all(alloc, visiting.s.meta_map.blocks, notes, seen)?;
+    let shared = share(alloc, uses.as_slice(), places, notes)?;
+    let shaped = shape_devices(alloc, notes, shared.numbers.as_slice(), tops, seen)?;
+    Ok(SavedShape::of_parts(
+        head_of(&visiting.s),
+        shared.leaves,
+        shared.runs,
+        shaped.devices,
+        shaped.piecing.pieces,
+        shaped.piecing.runs,
+    ))
+}
