@@ -2,9 +2,9 @@
 use Rattle.std.specs.Prelude.{Result, Ok, Err}
 use Rattle.pd_salvage.specs.declared.saved.SalvageFault.{SalvageFault}
 use Rattle.pd_salvage.specs.declared.saved.SalvageFault.TheVariants as s
-use Rattle.pd_restore.specs.declared.made.MadeFault.{MadeFault}
-use Rattle.pd_restore.specs.declared.made.MadeFault.TheVariants as m
-use Rattle.pd_restore.specs.Made.{Ending, done, failed, lacking, short, unbegun}
+use Rattle.pd_restoring.specs.declared.made.MadeFault.{MadeFault}
+use Rattle.pd_restoring.specs.declared.made.MadeFault.TheVariants as m
+use Rattle.pd_restoring.specs.Made.{Ending, done, failed, lacking, short, unbegun}
 use Rattle.pd_repair.specs.declared.fault.RepairFault.{RepairFault}
 use Rattle.pd_repair.specs.declared.fault.RepairFault.TheVariants.{Memory, Input, Output, NoSuper, NoRoom}
 
@@ -18,7 +18,7 @@ made_fault m.Device = Output
 made_fault (m.NoRoom need blocks) = NoRoom need blocks
 
 -- how the writing of what was saved ended
-abbrev pub output_ending : Result (Unit {0}) RepairFault → Ending
+abbrev pub output_ending : {T : Type 0} → Result T RepairFault → Ending
 output_ending (Ok answer) = done
 output_ending (Err Memory) = lacking
 output_ending (Err Input) = unbegun

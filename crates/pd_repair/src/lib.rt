@@ -3,6 +3,9 @@
 
 mod fault;
 mod repair;
+mod shared;
+mod super_block;
 
 pub use fault::RepairFault;
 pub use repair::{repair_from, repair_thin};
+pub use shared::{repair_shared, repair_shared_from};

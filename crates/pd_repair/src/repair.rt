@@ -1,15 +1,15 @@
 //! A repair.
 
-ghost use Rattle.std.specs.Prelude.{◌≡◌, ◌+◌, ◌≤◌, ◌^◌, IfErr, IfSome};
+ghost use Rattle.std.specs.Prelude.{◌≡◌, ◌+◌, ◌≤◌, ◌^◌, IfErr};
 ghost use Rattle.pd_image.specs.Device.{IsAttached, IsWritable, KeepsPlace, OnlyReads};
-ghost use Rattle.pd_repair.specs.Repaired.{CountsRepair, HasSuper, IsFirst, IsRepaired, IsRepairedFrom, NamesRules, ReadsFew};
+ghost use Rattle.pd_repair.specs.Repaired.{CountsRepair, HasSuper, IsRepaired, IsRepairedFrom, NamesRules, ReadsFew};
 
 use crate::fault::RepairFault;
+use crate::super_block::sound_super;
 use pd_image::Device;
-use pd_kinds::{Block, ThinSuper};
+use pd_kinds::ThinSuper;
 use pd_restore::restore_made;
 use pd_salvage::salvage;
-use pd_supers::{missing_super, read_thin_super, thin_super_rules};
 use std::alloc::Global;
 
 /// Writes what can be saved of a pool to another device.
@@ -30,41 +30,9 @@ pub fn repair_thin<A: Device, B: Device>(
     ensures place { KeepsPlace (B.state output.old) (B.state output.new) }
     ensures causes { CountsRepair result (A.state input.old).faults (A.state input.new).faults (B.state output.old).faults (B.state output.new).faults }
 {
-    let blocks = input.blocks();
-    if blocks == 0 {
-        return Err(RepairFault::NoSuper(missing_super()));
-    }
-    let mut first = Block::zeros();
-    match input.read(0, &mut first) {
-        Ok(()) => repair_read(alloc, input, output, &first, blocks),
-        Err(_) => Err(RepairFault::Input),
-    }
-}
-
-/// The rest of a repair, where block 0 of so many blocks was read.
-fn repair_read<A: Device, B: Device>(
-    alloc: Global,
-    input: &mut A,
-    output: &mut B,
-    first: &Block,
-    blocks: u64,
-) -> Result<(), RepairFault>
-    requires attached { IsAttached (A.state input.old) }
-    requires number { blocks ≡ (A.state input.old).blocks }
-    requires first { IfSome (A.state input.old).held (IsFirst blocks first.now.0) }
-    requires writable { IsWritable (B.state output.old) }
-    ensures repaired { IsRepaired result (A.state input.old) (B.state output.old) (B.state output.new) }
-    ensures named { IfErr result NamesRules }
-    ensures reads { IfErr result (λ fault. ReadsFew fault (A.state input.old).reads (A.state input.new).reads) }
-    ensures input { OnlyReads (A.state input.old) (A.state input.new) }
-    ensures place { KeepsPlace (B.state output.old) (B.state output.new) }
-    ensures causes { CountsRepair result (A.state input.old).faults (A.state input.new).faults (B.state output.old).faults (B.state output.new).faults }
-{
-    let rules = thin_super_rules(first, blocks);
-    if rules.is_empty() {
-        repair_from(alloc, input, output, &read_thin_super(first))
-    } else {
-        Err(RepairFault::NoSuper(rules))
+    match sound_super(input) {
+        Ok(s) => repair_from(alloc, input, output, &s),
+        Err(fault) => Err(fault),
     }
 }
 

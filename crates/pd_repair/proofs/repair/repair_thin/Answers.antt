@@ -1,21 +1,35 @@
-use Rattle.std.proofs.Common.{refl}
-use Rattle.pd_repair.specs.declared.fault.RepairFault.TheVariants.{Input, NoSuper}
-use Rattle.pd_repair.proofs.SuperLemmas.{any_super, missing_named, missing_super, never_repaired, repaired_same}
+use Rattle.std.proofs.Common.{ℕ, ◌+◌, subst}
+use Rattle.pd_laid.specs.Salvage.{salvage_from}
+use Rattle.pd_restore.specs.Made.{pool_content}
+use Rattle.pd_repair.specs.Repaired.{CountsRepair}
+use Rattle.pd_repair.proofs.BrokenLemmas.{other_named}
+use Rattle.pd_repair.proofs.SuperLemmas.{never_repaired, other_reads, repaired_sound}
 use Rattle.pd_repair.proofs.repair.repair_thin.Goals as goal
-
-pub returns-then-blocks-eq0-clause-repaired : goal.returns-then-blocks-eq0-clause-repaired
-returns-then-blocks-eq0-clause-repaired g c =
-    never_repaired (NoSuper c.missing_super.result) (g.A.Device.state c.args.input.now) (g.B.Device.state c.args.output.now) refl
-    (missing_super (g.A.Device.state c.args.input.now).held c.blocks-blocks.result c.missing_super.result c.if-blocks-eq0.true c.blocks-blocks.ensures.honest c.missing_super.ensures)
-
-pub returns-in-Err-clause-repaired : goal.returns-in-Err-clause-repaired
-returns-in-Err-clause-repaired g c =
-    never_repaired Input (g.A.Device.state c.args.input.now) (g.B.Device.state c.args.output.now) refl (any_super (g.A.Device.state c.args.input.now).held)
 
 pub returns-in-Ok-clause-repaired : goal.returns-in-Ok-clause-repaired
 returns-in-Ok-clause-repaired g c =
-    repaired_same c.repair_read.result (g.A.Device.state c.args.input.now) (g.A.Device.state c.read.new.self) (g.B.Device.state c.args.output.now) (g.B.Device.state c.repair_read.new.output)
-    c.in-Ok.ensures.kept.held c.repair_read.ensures.repaired
+    repaired_sound pool_content salvage_from c.repair_from.result c.in-Ok.s (g.A.Device.state c.args.input.now) (g.A.Device.state c.sound_super.new.input) (g.B.Device.state c.args.output.now) (g.B.Device.state c.repair_from.new.output)
+    c.sound_super.ensures.input.held c.in-Ok.ensures.sound c.repair_from.ensures.sound c.repair_from.ensures.repaired
 
-pub returns-then-blocks-eq0-clause-named : goal.returns-then-blocks-eq0-clause-named
-returns-then-blocks-eq0-clause-named g c = missing_named c.missing_super.result c.missing_super.ensures
+pub returns-in-Err-clause-repaired : goal.returns-in-Err-clause-repaired
+returns-in-Err-clause-repaired g c =
+    let from = g.A.Device.state c.args.input.now in
+    never_repaired pool_content salvage_from c.in-Err.fault (from.reads + 1) (g.A.Device.state c.sound_super.new.input).reads from (g.B.Device.state c.args.output.now) c.in-Err.ensures.lacks
+
+pub returns-in-Ok-clause-named : goal.returns-in-Ok-clause-named
+returns-in-Ok-clause-named g c = other_named c.repair_from.result c.repair_from.ensures.sound
+
+pub returns-in-Ok-clause-reads : goal.returns-in-Ok-clause-reads
+returns-in-Ok-clause-reads g c =
+    other_reads c.repair_from.result _ (g.A.Device.state c.repair_from.new.input).reads c.repair_from.ensures.sound
+
+pub returns-in-Err-clause-named : goal.returns-in-Err-clause-named
+returns-in-Err-clause-named g c = c.in-Err.ensures.lacks.named
+
+pub returns-in-Err-clause-reads : goal.returns-in-Err-clause-reads
+returns-in-Err-clause-reads g c = c.in-Err.ensures.lacks.few
+
+pub returns-in-Ok-clause-causes : goal.returns-in-Ok-clause-causes
+returns-in-Ok-clause-causes g c =
+    subst (λ (faults : ℕ). CountsRepair c.repair_from.result faults (g.A.Device.state c.repair_from.new.input).faults (g.B.Device.state c.args.output.now).faults (g.B.Device.state c.repair_from.new.output).faults)
+    (c.in-Ok.ensures.causes 0) c.repair_from.ensures.causes
