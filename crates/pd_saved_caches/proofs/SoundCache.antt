@@ -26,7 +26,7 @@ use Rattle.pd_laid.proofs.NodeFacts.{all_parts}
 use Rattle.pd_laid.proofs.SalvageLemmas.{filter_all, inside_is, tests_hold}
 use Rattle.pd_tree.specs.Roots.{HasCacheRoots}
 use Rattle.pd_changed.proofs.SoundCache.{is_valid_at, origin_at, origins_are}
-use Rattle.pd_saved_caches.proofs.Entries.{all_below, made_of, none_repeated}
+use Rattle.pd_saved_caches.proofs.Entries.{all_below, made_of, single_entries}
 use Rattle.pd_saved_caches.proofs.SoundArrays.{array_saved}
 
 -- the arrays of the format
@@ -205,7 +205,7 @@ module _ (image : List (List ℕ)) (device_blocks : ℕ) where
       unfolding saved_cache_from cache_meaning cache_graph
       cache_saved =
           let made = cache_entry fields.version words hints bits in
-          rw (all_saved, filter_all _ (map made valid) (none_repeated (origin_at words) made (λ i. refl) (λ i. refl) valid single), number) refl
+          rw (all_saved, filter_all _ (map made valid) (single_entries (origin_at words) made (λ i. refl) valid single), number) refl
 
 -- no fault up to the stage Whole
 inside_if_clean : (image : List (List ℕ)) → HasCleanSuper (cache_checked image) image

@@ -14,6 +14,7 @@ use Rattle.pd_kinds.specs.Graph.{block_at}
 use Rattle.pd_kinds.specs.Trees.{block_words, keys_of, value_of_key, words_of}
 use Rattle.pd_kinds.specs.Whole.{are_full}
 use Rattle.pd_laid.specs.SavedCache.{is_array_damaged, saved_word_at, saved_word_of}
+use Rattle.pd_cache_salvage.proofs.ArrayLemmas.{count_few}
 
 -- element i of a list that is made of numbers in a row
 made_at : {X : Type 0} (f : ℕ → X) (a n i : ℕ) → slice_get (map f (range_with_len a n)) i ≡ cond (nat_lt i n) (Some (f (a + i))) None
@@ -35,20 +36,6 @@ get_right [] ys i = let first : 0 + i ≡ i = omega arith in ap (slice_get ys) f
 get_right (x ∷ xs) ys i =
     let next : length (x ∷ xs) + i ≡ suc (length xs + i) = omega arith in
     ap (slice_get (x ∷ (xs ++ ys))) next ∙ get_right xs ys i
-
--- a block has no more words than fit
-count_few : (size : ℕ) (block : List ℕ) → word_count size block ≤ max_words size
-unfolding word_count is_array_shape_bad
-count_few size block =
-    let bad = not (nat_eq (array_value_size block) size) || (not (nat_eq (array_max block) (max_words size)) || nat_lt (array_max block) (array_entries block)) in
-    elim (cases_Bool bad) [
-      | inl is ↦ rw is (omega arith)
-      | inr other ↦
-          let parts = or_parts _ _ (or_parts _ _ other).1 in
-          let same : array_max block ≡ max_words size = eqb-true (array_max block) (max_words size) (not-false _ parts.0) in
-          let below : array_entries block ≤ array_max block = ltb-false (array_max block) (array_entries block) parts.1 in
-          rw other (omega (arith, same, below))
-    ]
 
 module _ (size nr : ℕ) (image : List (List ℕ)) (some : 1 ≤ max_words size) where
   abbrev per : ℕ

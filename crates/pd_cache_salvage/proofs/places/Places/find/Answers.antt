@@ -1,0 +1,18 @@
+use Rattle.std.proofs.Common.{ℕ, None, IfSome, subst}
+use Rattle.pd_value.specs.declared.thin.Root.{Root}
+use Rattle.pd_tree.proofs.NextLemmas.{if_both}
+use Rattle.pd_tree.specs.Items.{root_of}
+use Rattle.pd_tree.specs.Next.{IsNext}
+use Rattle.pd_salvage.specs.Cursor.{saved_left}
+use Rattle.pd_cache_salvage.specs.Places.{places_left}
+use Rattle.pd_cache_salvage.proofs.PlaceLemmas.{found_end}
+use Rattle.pd_cache_salvage.proofs.places.Places.find.Goals as goal
+
+pub returns-in-None-clause-found : goal.returns-in-None-clause-found
+returns-in-None-clause-found g c =
+    if_both (g.D.Device.state c.args.dev.now).held
+    (λ image held finds next.
+    found_end c.args.key image (places_left image c.args.self.now) c.loop-root.self c.known.new.self c.next.new.self finds c.in-Unread.ensures next)
+    c.loop-root.invariant.left
+    (subst (λ o. IfSome o (λ image. IsNext {X = ℕ × Root} None (saved_left 8 root_of image c.known.new.self.entries) (saved_left 8 root_of image c.next.new.self))) c.loop-root.invariant.kept.held
+    (rw c.in-None.is at c.in_ok-next.ensures.next))
