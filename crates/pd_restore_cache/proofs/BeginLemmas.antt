@@ -18,7 +18,7 @@ use Rattle.pd_cache_texts.proofs.SingleLemmas.{refused_text}
 use Rattle.pd_restoring.specs.Begin.{BeginsOf}
 use Rattle.pd_restoring.specs.Faults.{read_fault}
 use Rattle.pd_restoring.proofs.BeginLemmas.{begins}
-use Rattle.pd_restore_cache.specs.declared.gather.Cache.{Cache}
+use Rattle.pd_cache_salvage.specs.declared.head.CacheHead.{CacheHead}
 use Rattle.pd_restore_cache.specs.Begin.{IsOfCache}
 use Rattle.pd_restore_cache.specs.Gathered.{begun_lines, head_of_cache}
 
@@ -31,7 +31,7 @@ given_cache None new gives = let late : 2 ≤ 1 = (end_read (first_line ∷ []) 
 given_cache (Some (v.Cache uuid block_size blocks clean policy versions hint_size)) new gives = tt
 given_cache (Some (v.Map block origin dirty hint)) new gives = let late : 2 ≤ 1 = (map_read (first_line ∷ []) _ gives.so_far.lines.0).later in omega arith
 
-pub cache_reads : (next : Option CacheLine) (cache : Cache) (new : TextReader CacheState CacheLine) → IsOfCache next → cache_meant next ≡ cache_line (head_of_cache cache)
+pub cache_reads : (next : Option CacheLine) (cache : CacheHead) (new : TextReader CacheState CacheLine) → IsOfCache next → cache_meant next ≡ cache_line (head_of_cache cache)
     → GivesLine cache_single CacheStands first_line cache_meant (Ok next) [] new → ReadsOn cache_single CacheStands (begun_lines cache) new
 cache_reads None cache new of is gives = absurd of
 cache_reads (Some line) cache new of is gives = subst (λ (l : Line). ReadsOn cache_single CacheStands (l ∷ first_line ∷ []) new) is gives

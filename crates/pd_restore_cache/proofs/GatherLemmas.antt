@@ -2,10 +2,10 @@
 use Rattle.std.proofs.Common.{◌≡◌, ◌+◌, List, [], ◌∷◌, ◌++◌, length, map, refl, sym, ◌∙◌, ap, ap₂, append_assoc, arith}
 use Rattle.pd_spells.specs.CacheText.{Line, row_of}
 use Rattle.pd_texts.specs.Reader.{in_order}
-use Rattle.pd_restore_cache.specs.declared.gather.Cache.{Cache}
+use Rattle.pd_cache_salvage.specs.declared.head.CacheHead.{CacheHead}
 use Rattle.pd_restore_cache.specs.declared.gather.Gathered.{Gathered}
-use Rattle.pd_restore_cache.specs.declared.row.Row.{Row}
-use Rattle.pd_restore_cache.specs.Rows.{entry}
+use Rattle.pd_cache_salvage.specs.declared.row.Row.{Row}
+use Rattle.pd_cache_salvage.specs.Rows.{entry}
 use Rattle.pd_restore_cache.specs.Gathered.{after_rows, begun_lines, lines_of}
 
 -- rows more
@@ -35,4 +35,4 @@ rows_in_order before (r ∷ rows) others = rows_in_order (row_of (entry r) ∷ b
 pub lines_more : (old new : Gathered) (row : Row) → new.cache ≡ old.cache → new.rows.items ≡ old.rows.items ++ row ∷ []
     → lines_of new ≡ row_of (entry row) ∷ lines_of old
 lines_more old new row cache rows =
-    ap₂ (λ (c : Cache) (rs : List Row). after_rows (begun_lines c) rs) cache rows ∙ after_append (begun_lines old.cache) old.rows.items (row ∷ [])
+    ap₂ (λ (c : CacheHead) (rs : List Row). after_rows (begun_lines c) rs) cache rows ∙ after_append (begun_lines old.cache) old.rows.items (row ∷ [])

@@ -9,3 +9,4 @@ pub mod NeedLemmas
 pub mod BeginLemmas
 pub mod MeaningLemmas
 pub mod WriteLemmas
+pub mod SavedLemmas

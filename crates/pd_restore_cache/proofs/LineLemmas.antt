@@ -19,10 +19,10 @@ use Rattle.pd_cache_texts.proofs.SingleLemmas.{refused_text}
 use Rattle.pd_restoring.specs.declared.fault.RestoreFault.{RestoreFault}
 use Rattle.pd_restoring.specs.declared.fault.RestoreFault.TheVariants as r
 use Rattle.pd_restoring.specs.Faults.{read_fault}
-use Rattle.pd_restore_cache.specs.declared.gather.Cache.{Cache}
+use Rattle.pd_cache_salvage.specs.declared.head.CacheHead.{CacheHead}
 use Rattle.pd_restore_cache.specs.declared.gather.Gathered.{Gathered}
-use Rattle.pd_restore_cache.specs.declared.row.Row.{Row}
-use Rattle.pd_restore_cache.specs.Rows.{entry}
+use Rattle.pd_cache_salvage.specs.declared.row.Row.{Row}
+use Rattle.pd_cache_salvage.specs.Rows.{entry}
 use Rattle.pd_restore_cache.specs.Gathered.{after_rows, begun_lines, lines_of}
 use Rattle.pd_restore_cache.specs.Reading.{Reads, TakesLine, StepsGathering, SaysSingle, SaysAfter}
 use Rattle.pd_restore_cache.proofs.GatherLemmas.{lines_more, length-after_rows}
@@ -69,7 +69,7 @@ stepped (Ok more) line old text was left from to h reads told cache is takes =
         reads = subst (λ (lines : List Line). ReadsOn cache_single CacheStands lines text) same reads;
         few = omega (arith, h.few, takes.number, block.above, least);
         low = omega (arith, block.low, h.small, least);
-        small = subst (λ (c : Cache). c.blocks < 2 ^ 32) (sym cache) h.small;
+        small = subst (λ (c : CacheHead). c.blocks < 2 ^ 32) (sym cache) h.small;
       },
       (takes.number, λ t leaves. subst (λ (lines : List Line). LeavesOf cache_single t lines text left) same (told t leaves)),
     )

@@ -9,8 +9,8 @@ use Rattle.pd_spells.proofs.CacheVerdict.{cache_accepted}
 use Rattle.pd_texts.specs.Reader.{in_order, IsWhole}
 use Rattle.pd_cache_texts.proofs.SingleLemmas.{lines_mean, whole_single}
 use Rattle.pd_restore_cache.specs.declared.gather.Gathered.{Gathered}
-use Rattle.pd_restore_cache.specs.declared.row.Row.{Row}
-use Rattle.pd_restore_cache.specs.Rows.{entry}
+use Rattle.pd_cache_salvage.specs.declared.row.Row.{Row}
+use Rattle.pd_cache_salvage.specs.Rows.{entry}
 use Rattle.pd_restore_cache.specs.Gathered.{begun_lines, lines_of}
 use Rattle.pd_restore_cache.specs.Meaning.{meaning_of}
 use Rattle.pd_restore_cache.specs.Reading.{HasAll}

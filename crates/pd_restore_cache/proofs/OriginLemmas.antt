@@ -14,8 +14,8 @@ use Rattle.pd_restoring.specs.declared.fault.RestoreFault.{RestoreFault}
 use Rattle.pd_restoring.specs.declared.fault.RestoreFault.TheVariants as r
 use Rattle.pd_restoring.specs.Reading.{IsOfLater}
 use Rattle.pd_restore_cache.specs.declared.gather.Gathered.{Gathered}
-use Rattle.pd_restore_cache.specs.declared.row.Row.{Row}
-use Rattle.pd_restore_cache.specs.Rows.{entry}
+use Rattle.pd_cache_salvage.specs.declared.row.Row.{Row}
+use Rattle.pd_cache_salvage.specs.Rows.{entry}
 use Rattle.pd_restore_cache.specs.Gathered.{after_rows, begun_lines, lines_of}
 use Rattle.pd_restore_cache.specs.Reading.{SaysAfter}
 use Rattle.pd_restore_cache.specs.Repeats.{IsFirstRepeat, IsRepeatIn}

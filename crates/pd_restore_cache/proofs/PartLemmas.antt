@@ -24,11 +24,12 @@ use Rattle.pd_laid_once.proofs.WrittenLemmas.{map_written}
 use Rattle.pd_laid_once.proofs.CacheNamed.{cache_named_once}
 use Rattle.pd_build.specs.Array.{array_blocks}
 use Rattle.pd_smwrite.specs.Map.{bitmap_blocks, allocated_of, index_block, meta_map_blocks, meta_map_root}
-use Rattle.pd_restore_cache.specs.declared.gather.Cache.{Cache}
-use Rattle.pd_restore_cache.specs.declared.row.Row.{Row}
+use Rattle.pd_cache_salvage.specs.declared.head.CacheHead.{CacheHead}
+use Rattle.pd_cache_salvage.specs.declared.row.Row.{Row}
 use Rattle.pd_restore_cache.specs.declared.words.Words.TheVariants.{Mapping, Hints, Dirty}
-use Rattle.pd_restore_cache.specs.Meaning.{cache_meaning}
-use Rattle.pd_restore_cache.specs.Rows.{entry, found, AreRows}
+use Rattle.pd_cache_salvage.specs.Meaning.{cache_meaning}
+use Rattle.pd_cache_salvage.specs.Rows.{entry, AreRows}
+use Rattle.pd_restore_cache.specs.Rows.{found}
 use Rattle.pd_restore_cache.specs.Words.{bits_below, words_of}
 use Rattle.pd_restore_cache.proofs.WordLemmas.{length-words}
 
@@ -37,7 +38,7 @@ rows_are : (blocks hint_size least : ℕ) (earlier : List ℕ) (rows : List Row)
 rows_are blocks hint_size least earlier [] are = tt
 rows_are blocks hint_size least earlier (r ∷ rows) are = (are.0.above, (are.0.origin_fits, rows_are blocks hint_size (r.block + 1) (r.origin ∷ earlier) rows are.1))
 
-pub lawful_rows : (c : Cache) (rows : List Row) → IsLawfulCache (cache_meaning c rows) → AreRows 0 rows
+pub lawful_rows : (c : CacheHead) (rows : List Row) → IsLawfulCache (cache_meaning c rows) → AreRows 0 rows
 lawful_rows c rows lawful = rows_are c.blocks c.hint_size 0 [] rows lawful.entries
 
 -- an array that is written is a laid one
@@ -92,7 +93,7 @@ map_root : (blocks place a b c d : ℕ) → a ≡ b → c ≡ d
     → ◌≡◌ {A = SmRoot} (record { blocks = blocks; allocated = a; bitmap_root = place; overflow_root = c }) (record { blocks = blocks; allocated = b; bitmap_root = place; overflow_root = d })
 map_root blocks place a b c d p q = cc
 
-module _ (c : Cache) (rows : List Row) (version : ℕ) where
+module _ (c : CacheHead) (rows : List Row) (version : ℕ) where
   abbrev m : CacheMeaning
   m = cache_meaning c rows
 

@@ -11,7 +11,7 @@ use Rattle.std.proofs.lemmas.List.FromFn.{length-enumerate_from, get_or-enumerat
 use Rattle.std.proofs.lemmas.List.Sorted.{Contains-permutation, IsPermutation-sym, IsPermutation-keeps, sorted_far, ranks_by}
 use Rattle.std.proofs.lemmas.Bool.{cases_eq, cases_lt}
 use Rattle.std.proofs.lemmas.Bool.Decides.{nat_tests}
-use Rattle.pd_restore_cache.specs.declared.row.Row.{Row}
+use Rattle.pd_cache_salvage.specs.declared.row.Row.{Row}
 use Rattle.pd_restore_cache.specs.Repeats.{IsFirstRepeat, IsLeastRepeat, at, places_in}
 
 -- one place more: it is behind another one of its origin, or not

@@ -2,8 +2,9 @@
 use Rattle.std.proofs.Common.{◌≡◌, ℕ, ◌+◌, ◌<◌, ◌≤◌, ◌^◌, false, List, [], ◌∷◌, length, drop, get_or, Some, None, refl, sym, ◌∙◌, ap, subst, arith}
 use Rattle.std.proofs.lemmas.Bool.{eq-eqb, ne_eqb}
 use Rattle.std.proofs.lemmas.List.{drop_more, drop_all}
-use Rattle.pd_restore_cache.specs.declared.row.Row.{Row}
-use Rattle.pd_restore_cache.specs.Rows.{entry, found, AreRows, StandsAt}
+use Rattle.pd_cache_salvage.specs.declared.row.Row.{Row}
+use Rattle.pd_cache_salvage.specs.Rows.{entry, AreRows}
+use Rattle.pd_restore_cache.specs.Rows.{found, StandsAt}
 
 -- the row of no place
 abbrev pub none : Row

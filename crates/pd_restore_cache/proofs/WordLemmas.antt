@@ -8,7 +8,7 @@ use Rattle.pd_laid.specs.Array.{array_root}
 use Rattle.pd_laid.specs.LaidCache.{is_dirty}
 use Rattle.pd_build.specs.Array.{ArrayLeft, array_root_left}
 use Rattle.pd_build.specs.Building.{IsFilling}
-use Rattle.pd_restore_cache.specs.declared.row.Row.{Row}
+use Rattle.pd_cache_salvage.specs.declared.row.Row.{Row}
 use Rattle.pd_restore_cache.specs.declared.words.Words.{Words}
 use Rattle.pd_restore_cache.specs.Rows.{found}
 use Rattle.pd_restore_cache.specs.Words.{bits_below, bytes_of, word_of, words_of}

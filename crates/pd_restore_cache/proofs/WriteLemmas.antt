@@ -18,20 +18,21 @@ use Rattle.pd_restoring.specs.Reading.{NoneAbove, SaysOf}
 use Rattle.pd_restoring.specs.Whole.{Writes}
 use Rattle.pd_restoring.proofs.ReadingLemmas.{above_next, refused_says}
 use Rattle.pd_restore_cache.specs.declared.begin.Begun.{Begun}
-use Rattle.pd_restore_cache.specs.declared.gather.Cache.{Cache}
+use Rattle.pd_cache_salvage.specs.declared.head.CacheHead.{CacheHead}
 use Rattle.pd_restore_cache.specs.declared.gather.Gathered.{Gathered}
 use Rattle.pd_restore_cache.specs.declared.parts.CacheRoots.{CacheRoots}
-use Rattle.pd_restore_cache.specs.declared.row.Row.{Row}
+use Rattle.pd_cache_salvage.specs.declared.row.Row.{Row}
 use Rattle.pd_restore_cache.specs.Caches.{caches, CacheLeaves}
 use Rattle.pd_restore_cache.specs.Gathered.{after_rows, begun_lines, head_of_cache, lines_of}
-use Rattle.pd_restore_cache.specs.Meaning.{cache_meaning, meaning_of}
+use Rattle.pd_cache_salvage.specs.Meaning.{cache_meaning}
+use Rattle.pd_restore_cache.specs.Meaning.{meaning_of}
 use Rattle.pd_restore_cache.specs.CacheRoots.{AreParts, fields_of}
 use Rattle.pd_restore_cache.specs.Reading.{HasAll, SaysAfter}
 use Rattle.pd_restore_cache.proofs.MeaningLemmas.{gathered_lawful, gathered_accepted}
 
 -- nothing was gathered yet
 pub none_gathered : (g : Gathered) (begun : Begun) → g.cache ≡ begun.cache → g.rows.items ≡ [] → lines_of g ≡ begun_lines begun.cache
-none_gathered g begun cache rows = ap₂ (λ (c : Cache) (rs : List Row). after_rows (begun_lines c) rs) cache rows
+none_gathered g begun cache rows = ap₂ (λ (c : CacheHead) (rs : List Row). after_rows (begun_lines c) rs) cache rows
 
 -- the lines of rows need no more than the cache line
 rows_need : (version room : ℕ) (before : List Line) (rows : List Row) → cache_need_so_far version room (after_rows before rows) ≡ cache_need_so_far version room before
@@ -43,12 +44,12 @@ rows_above : (version room : ℕ) (before : List Line) (rows : List Row) → Non
 rows_above version room before [] above fits = above
 rows_above version room before (row ∷ rows) above fits = rows_above version room _ rows (above_next (cache_need_so_far version) room before _ above fits) fits
 
-all_above : (c : Cache) (version room : ℕ) (rows : List Row) → cache_need_so_far version room (begun_lines c) ≤ room → NoneAbove (cache_need_so_far version) room (after_rows (begun_lines c) rows)
+all_above : (c : CacheHead) (version room : ℕ) (rows : List Row) → cache_need_so_far version room (begun_lines c) ≤ room → NoneAbove (cache_need_so_far version) room (after_rows (begun_lines c) rows)
 all_above c version room rows fits =
     rows_above version room (begun_lines c) rows (above_next (cache_need_so_far version) room (first_line ∷ []) (cache_line (head_of_cache c)) (λ lines. refl) fits) fits
 
 -- what a refusal says where there is room
-pub says_of : (c : Cache) (version room : ℕ) (t : List ℕ) (fault : RestoreFault) → cache_need_so_far version room (begun_lines c) ≤ room → SaysAfter c t fault
+pub says_of : (c : CacheHead) (version room : ℕ) (t : List ℕ) (fault : RestoreFault) → cache_need_so_far version room (begun_lines c) ≤ room → SaysAfter c t fault
     → SaysOf cache (cache_need_so_far version) room t fault
 says_of c version room t r.Memory fits says = tt
 says_of c version room t r.Source fits says = tt
@@ -62,7 +63,7 @@ says_of c version room t (r.Text fault) fits (rows, inr is) =
 says_of c version room t (r.NoRoom needed blocks) fits says = absurd says
 
 -- the superblock
-pub fields_are : (c : Cache) (rows : List Row) (parts : CacheRoots) (version room : ℕ) → AreParts (cache_meaning c rows) version room parts
+pub fields_are : (c : CacheHead) (rows : List Row) (parts : CacheRoots) (version room : ℕ) → AreParts (cache_meaning c rows) version room parts
     → fields_of c parts version ≡ cache_laid_fields (cache_meaning c rows) version room
 unfolding cache_laid_fields
 fields_are c rows parts version room are = rw (are.mapping_root, are.hint_root, are.dirty_root, are.discard_root, are.meta_map) refl
@@ -74,7 +75,7 @@ no_dirty_root m version room parts are other = are.dirty_root ∙ rw (ne_eqb ver
 -- what was gathered needs what the cache line does
 pub gathered_need : (g : Gathered) (begun : Begun) (version room : ℕ) → g.cache ≡ begun.cache → cache_need_so_far version room (begun_lines begun.cache) ≤ room
     → cache_need version (meaning_of g) room ≤ room
-gathered_need g begun version room same need = subst (λ (c : Cache). need_of_cache version c.blocks c.hint_size room ≤ room) (sym same) need
+gathered_need g begun version room same need = subst (λ (c : CacheHead). need_of_cache version c.blocks c.hint_size room ≤ room) (sym same) need
 
 -- what is written is a laid cache, and what a text means whose lines were gathered
 pub writes_of : (start now : DraftState) (result : Result Block RestoreFault) (begun : Begun) (g : Gathered) (version room : ℕ) (was left : Option (List ℕ)) → length g.cache.versions ≡ 3 → HasAll g

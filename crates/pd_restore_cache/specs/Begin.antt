@@ -6,7 +6,7 @@ use Rattle.pd_cache_texts.specs.declared.line.CacheLine.{CacheLine}
 use Rattle.pd_cache_texts.specs.declared.line.CacheLine.TheVariants as v
 use Rattle.pd_cache_texts.specs.CacheState.{CacheStands}
 use Rattle.pd_restore_cache.specs.declared.begin.Begun.{Begun}
-use Rattle.pd_restore_cache.specs.declared.gather.Cache.{Cache}
+use Rattle.pd_cache_salvage.specs.declared.head.CacheHead.{CacheHead}
 use Rattle.pd_restore_cache.specs.Gathered.{begun_lines}
 
 -- the line is a cache's
@@ -16,7 +16,7 @@ IsOfCache (Some (v.Cache uuid block_size blocks clean policy versions hint_size)
 IsOfCache (Some (v.Map block origin dirty hint)) = ⊥
 
 -- its number of blocks fits, and a policy's version has three numbers
-pub record IsSmall (c : Cache) : Type 0 where
+pub record IsSmall (c : CacheHead) : Type 0 where
   pub blocks : c.blocks < 2 ^ 32
   pub versions : length c.versions ≡ 3
 

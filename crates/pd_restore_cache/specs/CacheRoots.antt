@@ -3,7 +3,7 @@ use Rattle.std.specs.Prelude.{◌≡◌, ℕ, if◌then◌else◌}
 use Rattle.pd_kinds.specs.CacheFormat.{CacheFields}
 use Rattle.pd_kinds.specs.Meaning.{CacheMeaning}
 use Rattle.pd_laid.specs.LaidCache.{cache_laid_fields}
-use Rattle.pd_restore_cache.specs.declared.gather.Cache.{Cache}
+use Rattle.pd_cache_salvage.specs.declared.head.CacheHead.{CacheHead}
 use Rattle.pd_restore_cache.specs.declared.parts.CacheRoots.{CacheRoots}
 
 -- these are the roots of a cache in a version, where there is so much room
@@ -15,7 +15,7 @@ pub record AreParts (m : CacheMeaning) (version room : ℕ) (parts : CacheRoots)
   pub meta_map : parts.meta_map ≡ (cache_laid_fields m version room).meta_map
 
 -- the fields of the superblock
-abbrev pub fields_of : Cache → CacheRoots → ℕ → CacheFields
+abbrev pub fields_of : CacheHead → CacheRoots → ℕ → CacheFields
 fields_of c parts version = record {
   flags = if c.clean then 1 else 0;
   uuid = c.uuid;

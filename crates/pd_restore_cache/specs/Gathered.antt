@@ -1,13 +1,13 @@
 -- A cache's lines as they are gathered; of lines the newest comes first.
 use Rattle.std.specs.Prelude.{List, [], ◌∷◌, slice_index}
 use Rattle.pd_spells.specs.CacheText.{Line, Head, first_line, cache_line, flag_number, row_of}
-use Rattle.pd_restore_cache.specs.declared.gather.Cache.{Cache}
+use Rattle.pd_cache_salvage.specs.declared.head.CacheHead.{CacheHead}
 use Rattle.pd_restore_cache.specs.declared.gather.Gathered.{Gathered}
-use Rattle.pd_restore_cache.specs.declared.row.Row.{Row}
-use Rattle.pd_restore_cache.specs.Rows.{entry}
+use Rattle.pd_cache_salvage.specs.declared.row.Row.{Row}
+use Rattle.pd_cache_salvage.specs.Rows.{entry}
 
 -- the words of the cache line
-abbrev pub head_of_cache : Cache → Head
+abbrev pub head_of_cache : CacheHead → Head
 head_of_cache c = record {
   uuid = c.uuid;
   block_size = c.block_size;
@@ -21,7 +21,7 @@ head_of_cache c = record {
 }
 
 -- the first two lines
-abbrev pub begun_lines : Cache → List Line
+abbrev pub begun_lines : CacheHead → List Line
 begun_lines c = cache_line (head_of_cache c) ∷ first_line ∷ []
 
 -- the lines of rows after others

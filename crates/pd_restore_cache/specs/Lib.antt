@@ -1,6 +1,7 @@
 pub mod Begin
 pub mod Caches
 pub mod Gathered
+pub mod Made
 pub mod Meaning
 pub mod CacheRoots
 pub mod Reading

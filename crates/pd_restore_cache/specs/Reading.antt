@@ -10,9 +10,9 @@ use Rattle.pd_cache_texts.specs.CacheState.{CacheStands}
 use Rattle.pd_cache_texts.specs.Origins.{OriginsDiffer}
 use Rattle.pd_restoring.specs.declared.fault.RestoreFault.{RestoreFault}
 use Rattle.pd_restoring.specs.declared.fault.RestoreFault.TheVariants as r
-use Rattle.pd_restore_cache.specs.declared.gather.Cache.{Cache}
+use Rattle.pd_cache_salvage.specs.declared.head.CacheHead.{CacheHead}
 use Rattle.pd_restore_cache.specs.declared.gather.Gathered.{Gathered}
-use Rattle.pd_restore_cache.specs.declared.row.Row.{Row}
+use Rattle.pd_cache_salvage.specs.declared.row.Row.{Row}
 use Rattle.pd_restore_cache.specs.Gathered.{after_rows, begun_lines, lines_of}
 
 -- the lines that were gathered are those that were read
@@ -59,7 +59,7 @@ pub record EndsGathering (old : TextReader CacheState CacheLine) (was left : Opt
   pub told : (t : List ℕ) → LeavesOf cache_single t (lines_of from) old was → IsWhole cache_single t (end_line ∷ lines_of to) left
 
 -- what a fault says of a text: it is refused after the lines of some rows, or after the last line that follows them
-abbrev pub SaysAfter : Cache → List ℕ → RestoreFault → Type 0
+abbrev pub SaysAfter : CacheHead → List ℕ → RestoreFault → Type 0
 SaysAfter c t r.Memory = Unit {0}
 SaysAfter c t r.Source = Unit {0}
 SaysAfter c t r.Device = ⊥

@@ -8,7 +8,7 @@ use Rattle.pd_cache_texts.specs.Origins.{OriginsDiffer}
 use Rattle.pd_restoring.specs.declared.fault.RestoreFault.{RestoreFault}
 use Rattle.pd_restoring.specs.declared.fault.RestoreFault.TheVariants as r
 use Rattle.pd_restore_cache.specs.declared.gather.Gathered.{Gathered}
-use Rattle.pd_restore_cache.specs.declared.row.Row.{Row}
+use Rattle.pd_cache_salvage.specs.declared.row.Row.{Row}
 use Rattle.pd_restore_cache.specs.Gathered.{after_rows, begun_lines, lines_of}
 
 -- it is among these lines, behind these ones

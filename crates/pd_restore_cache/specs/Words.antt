@@ -2,7 +2,7 @@
 use Rattle.std.specs.Prelude.{ℕ, ◌+◌, ◌*◌, ◌^◌, if◌then◌else◌, List, map, sum}
 use Rattle.std.specs.List.{range_with_len}
 use Rattle.pd_laid.specs.LaidCache.{hint_word, is_dirty, mapping_word}
-use Rattle.pd_restore_cache.specs.declared.row.Row.{Row}
+use Rattle.pd_cache_salvage.specs.declared.row.Row.{Row}
 use Rattle.pd_restore_cache.specs.declared.words.Words.{Words}
 use Rattle.pd_restore_cache.specs.declared.words.Words.TheVariants.{Mapping, Hints, Dirty}
 use Rattle.pd_restore_cache.specs.Rows.{found}

@@ -9,12 +9,12 @@ ghost use Rattle.pd_spells.specs.Need.{need_array};
 ghost use Rattle.pd_laid.specs.Array.{array_root};
 ghost use Rattle.pd_build.specs.Array.{array_blocks};
 ghost use Rattle.pd_build.specs.Causes.{CountsBuildFault};
-ghost use Rattle.pd_restore_cache.specs.Rows.{AreRows};
+ghost use Rattle.pd_cache_salvage.specs.Rows.{AreRows};
 ghost use Rattle.pd_restore_cache.specs.Words.{bytes_of, words_of};
 
-use crate::row::Row;
 use crate::words::Words;
 use pd_build::{ArrayBuilder, BuildFault};
+use pd_cache_salvage::Row;
 use pd_draft::Draft;
 use pd_image::Device;
 use std::alloc::Global;

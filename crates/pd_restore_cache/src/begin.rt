@@ -10,7 +10,7 @@ ghost use Rattle.pd_restoring.specs.Begin.{BeginsOf, CountsBegin};
 ghost use Rattle.pd_restore_cache.specs.Begin.{HasBegun, IsOfCache, IsSmall};
 ghost use Rattle.pd_restore_cache.specs.Gathered.{begun_lines, head_of_cache};
 
-use crate::gather::Cache;
+use pd_cache_salvage::CacheHead;
 use pd_cache_texts::{CacheLine, CacheText};
 use pd_image::Source;
 use pd_restoring::{RestoreFault, of_read};
@@ -20,7 +20,7 @@ use std::alloc::Global;
 #[derive(Drop)]
 pub(crate) struct Begun {
     pub(crate) text: CacheText,
-    pub(crate) cache: Cache,
+    pub(crate) cache: CacheHead,
 }
 
 /// Reads the first line and the cache line.
@@ -42,7 +42,7 @@ pub(crate) fn begin<S: Source>(alloc: Global, source: &mut S) -> Result<Begun, R
 }
 
 /// Reads the first two lines.
-fn read_cache<S: Source>(text: &mut CacheText, source: &mut S) -> Result<Cache, RestoreFault>
+fn read_cache<S: Source>(text: &mut CacheText, source: &mut S) -> Result<CacheHead, RestoreFault>
     requires attached { (S.state source.old).access ≡ 1 }
     requires start { ReadsOn cache_single CacheStands [] text.old }
     ensures reads { IfOk result (λ c. ReadsOn cache_single CacheStands (begun_lines c) text.new) }
@@ -60,7 +60,7 @@ fn read_cache<S: Source>(text: &mut CacheText, source: &mut S) -> Result<Cache, 
 }
 
 /// The cache of the second line.
-fn cache_of(line: Option<CacheLine>) -> Cache
+fn cache_of(line: Option<CacheLine>) -> CacheHead
     requires { IsOfCache line }
     ensures line { cache_meant line ≡ cache_line (head_of_cache result) }
     ensures small { IsSmall result }
@@ -76,7 +76,7 @@ fn cache_of(line: Option<CacheLine>) -> Cache
                 versions,
                 hint_size,
             },
-        ) => Cache {
+        ) => CacheHead {
             uuid,
             block_size,
             blocks,

@@ -11,7 +11,7 @@ ghost use Rattle.pd_spells.specs.Lawful.{IsLawfulCache};
 ghost use Rattle.pd_restoring.specs.Restored.{CountsRestore, IsRestored};
 
 use crate::begin::{Begun, begin};
-use crate::need::need_of;
+use crate::need::need_cache;
 use crate::write::write_cache;
 use pd_draft::Draft;
 use pd_image::{Device, Source};
@@ -77,7 +77,12 @@ impl Restoring for CacheVersion {
     }
 
     fn need(&self, begun: &Begun, room: u64) -> u64 {
-        need_of(self.version, &begun.cache, room)
+        need_cache(
+            self.version,
+            begun.cache.blocks,
+            begun.cache.hint_size,
+            room,
+        )
     }
 
     fn write<S: Source, D: Device>(

@@ -6,37 +6,22 @@ ghost use Rattle.pd_restore_cache.specs.Gathered.{lines_of};
 ghost use Rattle.pd_restore_cache.specs.Repeats.{IsRepeatIn};
 
 use crate::repeats::rows_before_repeat;
-use crate::row::Row;
+use pd_cache_salvage::{CacheHead, Row};
 use pd_grammar::TextCause;
 use pd_restoring::RestoreFault;
 use pd_texts::TextFault;
 use std::alloc::Global;
 
-/// The cache line of a text.
-#[derive(Clone, Copy, Debug, PartialEq, Eq)]
-pub(crate) struct Cache {
-    pub(crate) uuid: [u8; 16],
-    /// The size of a cache block in sectors of 512 bytes.
-    pub(crate) block_size: u32,
-    /// The number of cache blocks.
-    pub(crate) blocks: u32,
-    pub(crate) clean: bool,
-    pub(crate) policy: [u8; 16],
-    pub(crate) versions: [u32; 3],
-    /// The size of a hint in bytes.
-    pub(crate) hint_size: u32,
-}
-
 /// The entries of a cache that were read.
 #[derive(Drop)]
 pub(crate) struct Gathered {
-    pub(crate) cache: Cache,
+    pub(crate) cache: CacheHead,
     pub(crate) rows: Vec<Row>,
 }
 
 impl Gathered {
     /// No entry of the cache was read.
-    pub(crate) fn new(alloc: Global, cache: Cache) -> Gathered
+    pub(crate) fn new(alloc: Global, cache: CacheHead) -> Gathered
         ensures cache { result.cache ≡ cache }
         ensures none { result.rows.items ≡ [] }
     {

@@ -1,4 +1,4 @@
-//! A cache that is restored from its text, in version 1 or 2 of the metadata.
+//! A cache that is restored from its text, or from memory, in version 1 or 2 of the metadata.
 #![tactic(auto)]
 
 mod array;
@@ -10,7 +10,10 @@ mod need;
 mod parts;
 mod repeats;
 mod row;
+mod saved;
 mod words;
 mod write;
 
 pub use cache::restore_cache;
+pub use need::need_cache;
+pub use saved::restore_saved_cache;

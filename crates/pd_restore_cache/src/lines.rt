@@ -11,7 +11,7 @@ ghost use Rattle.pd_restore_cache.specs.Gathered.{lines_of};
 ghost use Rattle.pd_restore_cache.specs.Reading.{EndsGathering, EndsReading, Reads, SaysAfter, SaysSingle, StepsGathering, TakesLine};
 
 use crate::gather::Gathered;
-use crate::row::Row;
+use pd_cache_salvage::Row;
 use pd_cache_texts::{CacheLine, CacheText};
 use pd_image::Source;
 use pd_restoring::{RestoreFault, of_read};

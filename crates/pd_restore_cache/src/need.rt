@@ -7,7 +7,6 @@ ghost use Rattle.pd_spells.specs.CacheNeed.{need_of_cache};
 ghost use Rattle.pd_spells.specs.Need.{need_array, nodes_for};
 ghost use Rattle.pd_restore_cache.specs.Words.{bytes_of};
 
-use crate::gather::Cache;
 use crate::words::Words;
 use pd_build::need_upper;
 use pd_kinds::bitmaps_for;
@@ -15,15 +14,16 @@ use pd_kinds::bitmaps_for;
 /// How many dirty bits a word has.
 const DIRTY_BITS: u64 = 64;
 
-/// How many blocks a cache needs in a version of the metadata, where there are so many blocks for metadata.
-pub(crate) fn need_of(version: u32, cache: &Cache, room: u64) -> u64
+/// How many blocks a cache needs in a version of the metadata, of so many cache blocks and with hints of this size, where
+/// there are so many blocks for metadata.
+pub fn need_cache(version: u32, blocks: u32, hint_size: u32, room: u64) -> u64
     requires few { room ≤ 4161600 }
-    ensures need { result ≡ need_of_cache version cache.now.blocks cache.now.hint_size room }
+    ensures need { result ≡ need_of_cache version blocks hint_size room }
     ensures some { 1 ≤ result }
 {
-    let blocks = cache.blocks as u64;
+    let blocks = blocks as u64;
     let mapping = need_words(Words::Mapping(version), blocks);
-    let hints = need_where(cache.hint_size == 4, Words::Hints, blocks);
+    let hints = need_where(hint_size == 4, Words::Hints, blocks);
     let dirty = need_where(version == 2, Words::Dirty, dirty_words(blocks));
     1 + mapping + hints + dirty + 1 + need_own_map(room)
 }

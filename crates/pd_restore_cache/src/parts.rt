@@ -14,17 +14,16 @@ ghost use Rattle.pd_laid.specs.LaidCache.{laid_cache};
 ghost use Rattle.pd_laid.specs.Tree.{tree_blocks, tree_root};
 ghost use Rattle.pd_build.specs.Array.{array_blocks};
 ghost use Rattle.pd_build.specs.Causes.{CountsBuildFault};
-ghost use Rattle.pd_restore_cache.specs.Meaning.{cache_meaning};
+ghost use Rattle.pd_cache_salvage.specs.Meaning.{cache_meaning};
 ghost use Rattle.pd_restore_cache.specs.CacheRoots.{AreParts};
-ghost use Rattle.pd_restore_cache.specs.Rows.{AreRows};
+ghost use Rattle.pd_cache_salvage.specs.Rows.{AreRows};
 ghost use Rattle.pd_restore_cache.specs.Words.{bytes_of, words_of};
 
 use crate::array::write_words;
-use crate::gather::Cache;
 use crate::need::dirty_words;
-use crate::row::Row;
 use crate::words::Words;
 use pd_build::{BuildFault, write_tree};
+use pd_cache_salvage::{CacheHead, Row};
 use pd_draft::Draft;
 use pd_image::Device;
 use pd_kinds::SmRoot;
@@ -46,7 +45,7 @@ pub(crate) struct CacheRoots {
 pub(crate) fn write_parts<D: Device>(
     alloc: Global,
     draft: &mut Draft<'_, D>,
-    cache: &Cache,
+    cache: &CacheHead,
     rows: &[Row],
     version: u32,
     room: u64,

@@ -3,7 +3,7 @@
 ghost use Rattle.std.specs.Prelude.{◌≡◌, length, IfOk};
 ghost use Rattle.pd_restore_cache.specs.Repeats.{IsFirstRepeat, IsLeastRepeat, places_in};
 
-use crate::row::Row;
+use pd_cache_salvage::Row;
 use std::alloc::{AllocError, Global};
 
 /// How many rows stand before the first one that has the origin of an earlier one; all, where there is none.

@@ -1,18 +1,10 @@
 //! The entries of a cache.
 
 ghost use Rattle.std.specs.Prelude.{◌≡◌, ◌+◌, ◌^◌, ◌<◌, IfSome};
-ghost use Rattle.pd_restore_cache.specs.Rows.{found, entry_of_row, StandsAt};
+ghost use Rattle.pd_cache_salvage.specs.Rows.{entry_of_row};
+ghost use Rattle.pd_restore_cache.specs.Rows.{found, StandsAt};
 
-/// An entry of a cache.
-#[derive(Clone, Copy, Debug, PartialEq, Eq)]
-pub(crate) struct Row {
-    pub(crate) block: u32,
-    /// Whether the cache block has newer bytes than the origin's.
-    pub(crate) dirty: bool,
-    pub(crate) hint: u32,
-    /// The block of the origin device.
-    pub(crate) origin: u64,
-}
+use pd_cache_salvage::Row;
 
 /// The row of a cache block, where there is one, and the index of the first row behind it.
 pub(crate) fn next_row(rows: &[Row], at: usize, block: u64) -> (Option<Row>, usize)

@@ -3,11 +3,13 @@
 ghost use Rattle.std.specs.Prelude.{◌≡◌, ◌+◌, ◌*◌, ◌^◌, ◌<◌, if◌then◌else◌, IfSome};
 ghost use Rattle.pd_array.specs.Word.{size_of};
 ghost use Rattle.pd_laid.specs.LaidCache.{hint_word as hint_in, is_dirty as is_dirty_in, mapping_word as mapping_in};
-ghost use Rattle.pd_restore_cache.specs.Rows.{entry_of_row, StandsAt};
+ghost use Rattle.pd_cache_salvage.specs.Rows.{entry_of_row};
+ghost use Rattle.pd_restore_cache.specs.Rows.{StandsAt};
 ghost use Rattle.pd_restore_cache.specs.Words.{bits_below, bytes_of, span, word_of};
 
-use crate::row::{Row, next_row};
+use crate::row::next_row;
 use pd_array::Word;
+use pd_cache_salvage::Row;
 
 /// What an array of a cache has.
 #[derive(Clone, Copy, Debug, PartialEq, Eq)]

@@ -11,6 +11,8 @@ ghost use Rattle.pd_spells.specs.CacheText.{cache as cache_texts};
 ghost use Rattle.pd_spells.specs.Lawful.{IsLawfulCache};
 ghost use Rattle.pd_laid.specs.Laid.{written_from};
 ghost use Rattle.pd_laid.specs.LaidCache.{laid_cache};
+ghost use Rattle.pd_build.specs.Causes.{CountsBuildFault};
+ghost use Rattle.pd_cache_salvage.specs.Meaning.{cache_meaning};
 ghost use Rattle.pd_restoring.specs.Reading.{CountsTake, IsOfBuild, IsOfLater, SaysOf};
 ghost use Rattle.pd_restoring.specs.Restored.{CountsRestore};
 ghost use Rattle.pd_restoring.specs.Whole.{Writes};
@@ -21,9 +23,11 @@ ghost use Rattle.pd_restore_cache.specs.Meaning.{meaning_of};
 ghost use Rattle.pd_restore_cache.specs.CacheRoots.{fields_of};
 
 use crate::begin::Begun;
-use crate::gather::{Cache, Gathered};
+use crate::gather::Gathered;
 use crate::lines::gather_lines;
 use crate::parts::{CacheRoots, write_parts};
+use pd_build::BuildFault;
+use pd_cache_salvage::{CacheHead, Row};
 use pd_draft::Draft;
 use pd_image::{Device, Source};
 use pd_kinds::{Block, CacheSuper};
@@ -84,15 +88,40 @@ fn write_gathered<D: Device>(
     ensures closed { StaysClosed (draft_state draft.old).device (draft_state draft.new).device }
     ensures faults { CountsTake result (draft_state draft.old).device.faults (draft_state draft.new).device.faults }
 {
-    let cache = &gathered.cache;
-    match write_parts(alloc, draft, cache, &gathered.rows, version, room) {
-        Ok(parts) => Ok(write_cache_super(&super_of(cache, parts, version))),
+    match write_rows(alloc, draft, &gathered.cache, &gathered.rows, version, room) {
+        Ok(block) => Ok(block),
         Err(fault) => Err(of_build(fault)),
     }
 }
 
+/// Writes a cache of these entries, but for its superblock, which it answers.
+pub(crate) fn write_rows<D: Device>(
+    alloc: Global,
+    draft: &mut Draft<'_, D>,
+    cache: &CacheHead,
+    rows: &[Row],
+    version: u32,
+    room: u64,
+) -> Result<Block, BuildFault>
+    requires lawful { IsLawfulCache (cache_meaning cache.now rows.now) }
+    requires place { (draft_state draft.old).place ≡ 1 }
+    requires need { cache_need version (cache_meaning cache.now rows.now) room ≤ room }
+    requires most { room ≤ 4161600 }
+    requires there { room ≤ (draft_state draft.old).device.blocks }
+    requires writable { IsWritable (draft_state draft.old).device }
+    requires closed { IsClosed (draft_state draft.old).device }
+    ensures same_reference { draft.new.dev.ghost_name ≡ draft.old.dev.ghost_name }
+    ensures super_is { IfOk result (λ block. block.0 ≡ (laid_cache (cache_meaning cache.now rows.now) version room).super_block) }
+    ensures wrote { OnOk result (Wrote (written_from 1 (laid_cache (cache_meaning cache.now rows.now) version room).blocks) (draft_state draft.old) (draft_state draft.new)) }
+    ensures closed { StaysClosed (draft_state draft.old).device (draft_state draft.new).device }
+    ensures faults { CountsBuildFault result (draft_state draft.old).device.faults (draft_state draft.new).device.faults }
+{
+    let parts = write_parts(alloc, draft, cache, rows, version, room)?;
+    Ok(write_cache_super(&super_of(cache, parts, version)))
+}
+
 /// The superblock's fields.
-fn super_of(cache: &Cache, parts: CacheRoots, version: u32) -> CacheSuper
+fn super_of(cache: &CacheHead, parts: CacheRoots, version: u32) -> CacheSuper
     ensures { result ≡ fields_of cache.now parts version }
 {
     CacheSuper {

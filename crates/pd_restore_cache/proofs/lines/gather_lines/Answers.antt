@@ -3,7 +3,7 @@ use Rattle.std.specs.Prelude.{IfErr}
 use Rattle.pd_grammar.specs.Texts.{whole}
 use Rattle.pd_spells.specs.CacheText.{end_line}
 use Rattle.pd_restoring.specs.declared.fault.RestoreFault.TheVariants.{Text}
-use Rattle.pd_restore_cache.specs.declared.gather.Cache.{Cache}
+use Rattle.pd_cache_salvage.specs.declared.head.CacheHead.{CacheHead}
 use Rattle.pd_restore_cache.specs.Reading.{SaysAfter}
 use Rattle.pd_restore_cache.proofs.LineLemmas.{single_rest, single_says}
 use Rattle.pd_restore_cache.proofs.OriginLemmas.{repeats_say, repeats_later}
@@ -13,7 +13,7 @@ pub returns-in-Ok-clause-says : goal.returns-in-Ok-clause-says
 returns-in-Ok-clause-says g c t leaves =
     let e = c.in-Ok.ensures in
     let all = e.ends.told t leaves in
-    subst (λ (cache : Cache). IfErr c.check_origins.result (SaysAfter cache t)) e.cache
+    subst (λ (cache : CacheHead). IfErr c.check_origins.result (SaysAfter cache t)) e.cache
     (repeats_say c.check_origins.result c.read_lines.new.gathered t (whole (end_line ∷ [])) all.0 c.check_origins.ensures.repeated)
 
 pub returns-in-Ok-clause-later : goal.returns-in-Ok-clause-later
@@ -24,7 +24,7 @@ returns-in_err-check_origins-in-Err-Text-clause-says g c t leaves =
     let e = c.in-Err-Text.ensures in
     let fault = c.in_err-check_origins-in-Err-Text.field-0.0 in
     let front = single_rest t c.read_lines.new.gathered c.in-Err-Text.fault (rw c.in-Err-Text.field-0-is at (e.says t leaves)) in
-    let says = subst (λ (cache : Cache). SaysAfter cache t fault) e.cache
+    let says = subst (λ (cache : CacheHead). SaysAfter cache t fault) e.cache
     (repeats_say (Err fault) c.read_lines.new.gathered t front.0 front.1 c.in_err-check_origins-in-Err-Text.ensures.repeated) in
     search rules
 
@@ -37,5 +37,5 @@ returns-in_err-check_origins-in-Err-Text-clause-later g c =
 pub returns-in_ok-check_origins-in-Err-Text-clause-says : goal.returns-in_ok-check_origins-in-Err-Text-clause-says
 returns-in_ok-check_origins-in-Err-Text-clause-says g c t leaves =
     let e = c.in-Err-Text.ensures in
-    subst (λ (cache : Cache). SaysAfter cache t (Text c.in-Err-Text.fault)) e.cache
+    subst (λ (cache : CacheHead). SaysAfter cache t (Text c.in-Err-Text.fault)) e.cache
     (single_says t c.read_lines.new.gathered (Text c.in-Err-Text.fault) c.in_ok-check_origins-in-Err-Text.ensures.differ (rw c.in-Err-Text.field-0-is at (e.says t leaves)))

@@ -1,5 +1,5 @@
 use Rattle.std.proofs.Common.{rules, ◌<◌, ◌^◌, List, length, ap, subst, arith}
-use Rattle.pd_restore_cache.specs.declared.row.Row.{Row}
+use Rattle.pd_cache_salvage.specs.declared.row.Row.{Row}
 use Rattle.pd_restore_cache.specs.Repeats.{IsFirstRepeat}
 use Rattle.pd_restore_cache.proofs.OriginLemmas.{all_differ, repeats_there}
 use Rattle.pd_restore_cache.proofs.gather.Gathered.check_origins.Goals as goal

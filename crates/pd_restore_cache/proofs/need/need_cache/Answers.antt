@@ -2,7 +2,7 @@ use Rattle.std.proofs.Common.{ℕ, cond, nat_eq, ap, arith}
 use Rattle.pd_spells.specs.CacheNeed.{need_of_cache}
 use Rattle.pd_spells.specs.Need.{need_array}
 use Rattle.pd_restore_cache.proofs.NeedLemmas.{empty_tree, empty_overflow}
-use Rattle.pd_restore_cache.proofs.need.need_of.Goals as goal
+use Rattle.pd_restore_cache.proofs.need.need_cache.Goals as goal
 
 pub returns-clause-need : goal.returns-clause-need
 unfolding need_of_cache
