@@ -1,5 +1,5 @@
 -- What the words of each tool ask.
-use Rattle.std.proofs.Common.{◌≡◌, ◌⊎◌, inl, inr, ℕ, ◌+◌, ◌^◌, ◌<◌, ◌≤◌, ◌==◌, ◌&&◌, if◌then◌else◌, nat_eq, nat_lt, List, [], ◌∷◌, ◌++◌, Option, Some, None, IfSome, option_and_then, refl, sym, arith}
+use Rattle.std.proofs.Common.{◌≡◌, ◌⊎◌, inl, inr, ℕ, ◌+◌, ◌^◌, ◌<◌, ◌≤◌, ◌==◌, ◌&&◌, if◌then◌else◌, Bool, true, false, nat_eq, nat_lt, List, [], ◌∷◌, ◌++◌, Option, Some, None, IfSome, option_and_then, refl, sym, arith}
 use Rattle.std.specs.Prelude.{codes, decimal}
 use Rattle.std.specs.Str.Parse.{digits_value}
 use Rattle.std.specs.Str.{bytes_eq}
@@ -14,10 +14,11 @@ use Rattle.pd_kinds.specs.Flagged.{kind_of}
 use Rattle.pd_kinds.specs.declared.kind.Kind.TheVariants.{Thin, Cache, Era}
 use Rattle.pd_kinds.specs.declared.kind.Stage.TheVariants.{Counts}
 use Rattle.pd_answers.specs.QueryLines.{text, shared_text, reverse_map, device_list, since}
-use Rattle.pd_answers.specs.Requests.{check, check_and_clear, passing_check, query, restore, repair, search, generate, rehearse, writeback, shrink}
+use Rattle.pd_answers.specs.Requests.{check, check_and_clear, passing_check, query, restore, repair, search, repair_cache, generate, rehearse, writeback, shrink}
 use Rattle.pd_answers.specs.Words.{Region, is_flag, items_of, given, version_of, generated_number, number_below, region_of, tool_in, request_of, asked}
+use Rattle.pd_exact.specs.Saved.{IsVersionAsked}
 use Rattle.pd_exact.specs.Search.{DoNumbersFit, NumberWords, SayNumbers, with_numbers}
-use Rattle.pd_exact.specs.Words.{IsName, check_name, in_version, letting_pass, to_file}
+use Rattle.pd_exact.specs.Words.{IsName, IsVersionSaid, check_name, in_version, letting_pass, to_file, with_sharing}
 
 pub thin_check_asked : (image : List ℕ) → IsName image → asked (codes "thin_check" ∷ image ∷ []) ≡ Some (check Thin Counts image)
 unfolding is_flag items_of given version_of tool_in request_of asked
@@ -79,15 +80,27 @@ pub era_restore_asked : (file path : List ℕ) → IsName file → IsName path �
 unfolding is_flag items_of given version_of tool_in request_of asked
 era_restore_asked file path is_file is_path = rw (is_file, is_path) refl
 
-pub thin_repair_asked : (from to : List ℕ) → IsName from → IsName to → asked (codes "thin_repair" ∷ codes "-i" ∷ from ∷ codes "-o" ∷ to ∷ []) ≡ Some (repair from to)
+pub thin_repair_asked : (shared : Bool) (from to : List ℕ) → IsName from → IsName to
+    → asked (codes "thin_repair" ∷ (with_sharing shared ++ (codes "-i" ∷ from ∷ codes "-o" ∷ to ∷ []))) ≡ Some (repair shared from to)
 unfolding is_flag items_of given version_of tool_in request_of asked
-thin_repair_asked from to is_from is_to = rw (is_from, is_to) refl
+thin_repair_asked false from to is_from is_to = rw (is_from, is_to) refl
+thin_repair_asked true from to is_from is_to = rw (is_from, is_to) refl
 
-pub thin_search_asked : (from to : List ℕ) (words : NumberWords) (transaction block_size blocks : ℕ) → IsName from → IsName to → SayNumbers words transaction block_size blocks
-    → asked (codes "thin_repair" ∷ codes "-i" ∷ from ∷ codes "-o" ∷ to ∷ with_numbers words) ≡ Some (search from to transaction block_size blocks)
+pub thin_search_asked : (shared : Bool) (from to : List ℕ) (words : NumberWords) (transaction block_size blocks : ℕ) → IsName from → IsName to → SayNumbers words transaction block_size blocks
+    → asked (codes "thin_repair" ∷ (with_sharing shared ++ (codes "-i" ∷ from ∷ codes "-o" ∷ to ∷ with_numbers words))) ≡ Some (search shared from to transaction block_size blocks)
 unfolding is_flag items_of given version_of tool_in request_of asked
-thin_search_asked from to words transaction block_size blocks is_from is_to say =
+thin_search_asked false from to words transaction block_size blocks is_from is_to say =
     rw (is_from, is_to, say.names.0, say.names.1.0, say.names.1.1, say.transaction_is, say.block_size_is, say.blocks_is) refl
+thin_search_asked true from to words transaction block_size blocks is_from is_to say =
+    rw (is_from, is_to, say.names.0, say.names.1.0, say.names.1.1, say.transaction_is, say.block_size_is, say.blocks_is) refl
+
+pub cache_repair_asked : (word : Option (List ℕ)) (version : Option ℕ) (from to : List ℕ) → IsVersionSaid word version → IsName from → IsName to
+    → asked (codes "cache_repair" ∷ (in_version word ++ (codes "-i" ∷ from ∷ codes "-o" ∷ to ∷ []))) ≡ Some (repair_cache version from to)
+unfolding is_flag items_of given tool_in request_of asked
+cache_repair_asked None None from to is is_from is_to = rw (is_from, is_to) refl
+cache_repair_asked None (Some version) from to is is_from is_to = absurd is
+cache_repair_asked (Some word) None from to is is_from is_to = absurd is
+cache_repair_asked (Some word) (Some version) from to is is_from is_to = rw (is.0, is_from, is_to, is.1) refl
 
 -- the numbers that words say fit a superblock
 below_bound : (bound : ℕ) (word : List ℕ) (number : ℕ) → number_below bound word ≡ Some number → number < bound
@@ -186,3 +199,10 @@ known_version (Some word) version is = elim (cases_Bool (bytes_eq word (codes "1
   where
     nothing : (version : ℕ) → (let none : Option ℕ = None in none ≡ Some version) → ⊥
     nothing version is = cc
+
+-- so does one that may be left out
+pub version_asked : (word : Option (List ℕ)) (version : Option ℕ) → IsVersionSaid word version → IsVersionAsked version
+version_asked None None is = tt
+version_asked None (Some version) is = absurd is
+version_asked (Some word) None is = absurd is
+version_asked (Some word) (Some version) is = known_version (Some word) version is.1

@@ -34,7 +34,7 @@ one_of n either = elim (cases_Bool (nat_eq n 0)) [
 ]
 
 -- the hint size of a sound superblock
-hint_size_in : (blocks : ℕ) (block : List ℕ) → IsSound (cache_super_bad blocks block) → ((cache_fields block).hint_size ≡ 0) ⊎ ((cache_fields block).hint_size ≡ 4)
+pub hint_size_in : (blocks : ℕ) (block : List ℕ) → IsSound (cache_super_bad blocks block) → ((cache_fields block).hint_size ≡ 0) ⊎ ((cache_fields block).hint_size ≡ 4)
 unfolding cache_super_bad cache_super_tests are_cache_sizes_bad
 hint_size_in blocks block sound =
     let tests = tests_after_two _ _ _ _ (cache_super_tests blocks block) sound in

@@ -8,7 +8,7 @@ use Rattle.pd_kinds.specs.Meaning.{ThinPool, thin_meaning}
 use Rattle.pd_kinds.specs.ThinSuper.{thin_fields}
 use Rattle.pd_laid.specs.FoundRoots.{FoundRoots, AreBest, found_pool, is_greater, lost_graph, roots_at}
 use Rattle.pd_answers.specs.Answer.{Objects}
-use Rattle.pd_exact.specs.Search.{HasNoRoots, HoldsFoundPool, HoldsNoEarlier, HoldsOfRoots, IsLostPool, IsOfBestRoots, KeepsRoots, state_of, state_of_roots}
+use Rattle.pd_exact.specs.Search.{HasNoRoots, HoldsFoundPool, HoldsNoEarlier, HoldsOfRoots, IsLostPool, IsOfBest, IsPoolOf, KeepsRoots, state_of, state_of_roots}
 use Rattle.pd_exact.proofs.Restored.{Image, at_told}
 
 -- the state of the best roots is that of their pool
@@ -27,7 +27,7 @@ module _ (image lost : Image) (transaction block_size : ℕ) (before after : Obj
       let all = at_told before.input.held lost _ is.read none.0 in
       both_ways _ (all (thin_fields (block_at image 0)).mapping_root (thin_fields (block_at image 0)).details_root) keeps.fitting
 
-  no_earlier : (made : Image) → IsOfBestRoots transaction block_size blocks lost made
+  no_earlier : (made : Image) → IsOfBest blocks (IsPoolOf transaction block_size blocks) lost made
       → is_greater (state_of (thin_meaning image)) (state_of (thin_meaning made)) ≡ false
   no_earlier made of =
       let late = keeps.found (Some of.roots) of.best in
@@ -40,5 +40,5 @@ module _ (image lost : Image) (transaction block_size : ℕ) (before after : Obj
   pub holds_no_earlier : HoldsFoundPool transaction block_size blocks before after → HoldsNoEarlier image before after
   holds_no_earlier holds =
       IfSome_then before.output.held
-      (at_told before.input.held lost (λ (i : Image). IsImage i → IfSome before.output.held (λ (base : Image). IfSome after.output.held (λ (made : Image). HoldsOfRoots transaction block_size blocks i made before after))) is.read holds is.lost_is)
+      (at_told before.input.held lost (λ (i : Image). IsImage i → IfSome before.output.held (λ (base : Image). IfSome after.output.held (λ (made : Image). HoldsOfRoots blocks (IsPoolOf transaction block_size blocks) i made before after))) is.read holds is.lost_is)
       (λ base told. IfSome_then after.output.held told (λ made here. no_earlier made here.found))

@@ -1,8 +1,9 @@
--- What an answered repair comes to, where what is saved is lawful and what is laid of a lawful pool is clean.
-use Rattle.std.proofs.Common.{◌≡◌, ◌⊎◌, inl, inr, ⊎_elim, ℕ, ◌≤◌, nat_eq, List, [], length, IfSome, refl, sym, ap, ◌∙◌}
+-- What an answered repair comes to, where what is laid of what is saved is so.
+use Rattle.std.proofs.Common.{◌≡◌, ◌⊎◌, inl, inr, ⊎_elim, ℕ, ◌≤◌, nat_eq, false, true, Bool, List, [], length, Some, IfSome, refl, sym, ap, ◌∙◌, subst}
 use Rattle.std.proofs.lemmas.Bool.{cases_Bool, eq-eqb, eqb-true, le-ltb, ltb-false}
 use Rattle.std.proofs.lemmas.Option.{IfSome_then}
 use Rattle.pd_kinds.specs.declared.fault.Fault.{Fault}
+use Rattle.pd_kinds.specs.declared.kind.Kind.{Kind}
 use Rattle.pd_kinds.specs.declared.kind.Kind.TheVariants.{Thin}
 use Rattle.pd_kinds.specs.declared.kind.Stage.TheVariants as stages
 use Rattle.pd_kinds.specs.Crash.{HoldsSynced, IsOldNoneOrMade, LeavesOnly}
@@ -19,96 +20,148 @@ use Rattle.pd_laid_thin.specs.CleanPool.{IsCleanPool}
 use Rattle.pd_spells.specs.Lawful.{IsLawfulPool}
 use Rattle.pd_spells.specs.ThinNeed.{thin_need}
 use Rattle.pd_answers.specs.Answer.{NoFaults, Objects}
-use Rattle.pd_answers.specs.Repairs.{LaysPool, Salvaged, is_too_small, repair_answer}
+use Rattle.pd_answers.specs.Makings.{Lays, Making, is_too_small}
+use Rattle.pd_answers.specs.Outputs.{HoldsMade}
+use Rattle.pd_answers.specs.Promises.{terms_of}
+use Rattle.pd_answers.specs.Repairs.{FindsSaved, Salvaged, Saved, repair_answer, saved_answer, saved_making, saved_of}
+use Rattle.pd_answers.specs.Requests.{repair}
+use Rattle.pd_answers.specs.Terms.{IsAnswered}
 use Rattle.pd_exact.specs.Exact.{HoldsSalvage, IsRepairAnswered, IsSoundRepair, LeavesSalvage}
 use Rattle.pd_exact.proofs.Restored.{Image, at_told, both_told}
 use Rattle.pd_exact.proofs.StageLemmas.{none_of_super}
 use Rattle.pd_exact.proofs.TellLemmas.{four_zero, none_counted, one_zero}
 
 -- at the answer's status 0 nothing was refused: the report is empty, and there is room
-record IsNotRefused (saved : Salvaged) : Type 0 where
-  pub none : saved.report.total ≡ 0
-  pub room : thin_need saved.pool saved.room ≤ saved.room
+module _ {S : Type 0} (making : S → Making) (line : S → List ℕ) (found : Salvaged S) where
+  record IsNotRefused : Type 0 where
+    none : found.report.total ≡ 0
+    room : (making found.saved).need found.room ≤ found.room
 
-not_refused : (saved : Salvaged) → (repair_answer saved).status ≡ 0 → IsNotRefused saved
-not_refused saved given = elim (cases_Bool (nat_eq saved.report.total 0)) [
-  | inr some ↦ absurd (one_zero (rw some at given))
-  | inl none ↦ elim (cases_Bool (is_too_small saved.pool saved.room)) [
-    | inl small ↦ absurd (four_zero (rw (none, small) at given))
-    | inr enough ↦ record { none = eqb-true saved.report.total 0 none; room = ltb-false saved.room (thin_need saved.pool saved.room) enough }
+  not_refused : (saved_answer making line found).status ≡ 0 → IsNotRefused
+  not_refused given = elim (cases_Bool (nat_eq found.report.total 0)) [
+    | inr some ↦ absurd (one_zero (rw some at given))
+    | inl none ↦ elim (cases_Bool (is_too_small (making found.saved) found.room)) [
+      | inl small ↦ absurd (four_zero (rw (none, small) at given))
+      | inr enough ↦ record { none = eqb-true found.report.total 0 none; room = ltb-false found.room ((making found.saved).need found.room) enough }
+    ]
   ]
-]
 
--- so the superblock has no fault
-none_at_zero : (image : Image) (saved : Salvaged) → saved.report ≡ report_of (faults Thin stages.Super image) → (repair_answer saved).status ≡ 0 → faults Thin stages.Super image ≡ []
-none_at_zero image saved right zero =
-    none_counted (faults Thin stages.Super image) (sym (ap (λ (r : Reported). r.total) right) ∙ (not_refused saved zero).none)
+  -- so it has the line of what is made
+  pub line_at_zero : (saved_answer making line found).status ≡ 0 → (saved_answer making line found).out ≡ line found.saved
+  line_at_zero given =
+      let are = not_refused given in
+      rw (eq-eqb found.report.total 0 are.none, le-ltb found.room ((making found.saved).need found.room) are.room) refl
 
+  -- where the superblock has no fault, and there is room, nothing is refused
+  answers_zero : found.report.total ≡ 0 → (making found.saved).need found.room ≤ found.room → (saved_answer making line found).status ≡ 0
+  answers_zero none enough = rw (eq-eqb found.report.total 0 none, le-ltb found.room ((making found.saved).need found.room) enough) refl
+
+-- what holds of an image that is laid of what is saved of another one, and of that superblock
+abbrev pub IsMadeSo : {S : Type 0} → Kind → (S → Making) → (Image → S) → (Image → Image → Type 0) → Type 0
+IsMadeSo kind making all_of Made = (image base made : Image) → IsImage image → faults kind stages.Super image ≡ []
+    → (making (all_of image)).need (room_of (length base)) ≤ room_of (length base) → IsLaid ((making (all_of image)).laid (room_of (length base))) base made → Made image made
+
+-- what a repair comes to by what it leaves
+module _ {S : Type 0} (kind : Kind) (making : S → Making) (line : S → List ℕ) (all_of : Image → S) (Made : Image → Image → Type 0) (so : IsMadeSo kind making all_of Made)
+    (before after : Objects) (found : Salvaged S) (finds : FindsSaved kind all_of before after found) where
+  abbrev LaysHere : Image → Image → Type 0
+  LaysHere = Lays (saved_answer making line found) (making found.saved) found.room
+
+  made_of_saved : (image base made : Image) → IsImage image → (found.report ≡ report_of (faults kind stages.Super image)) × (found.saved ≡ all_of image)
+      → found.room ≡ room_of (length base) → LaysHere base made → Made image made
+  made_of_saved image base made is right room laid =
+      let given = not_refused making line found laid.0 in
+      let none = none_counted (faults kind stages.Super image) (sym (ap (λ (r : Reported). r.total) right.0) ∙ given.none) in
+      so image base made is none (rw (right.1, room) at given.room) (rw (right.1, room) at laid.1)
+
+  -- what the output holds
+  pub holds_made : HoldsMade LaysHere before.output after.output
+      → IfSome before.input.held (λ image. IsImage image → IfSome before.output.held (λ base. IfSome after.output.held (λ made. Made image made × HoldsSynced made after.output)))
+  holds_made holds =
+      IfSome_then before.input.held finds.1 (λ image right is.
+      IfSome_then before.output.held (both_told before.output.held (λ (base : Image). found.room ≡ room_of (length base))
+      (λ (base : Image). IfSome after.output.held (λ (made : Image). LaysHere base made × HoldsSynced made after.output))
+      finds.0.told holds) (λ base told.
+      IfSome_then after.output.held told.1 (λ made held. (made_of_saved image base made is right told.0 held.0, held.1))))
+
+  -- what a crash leaves
+  pub leaves_made : IfSome before.output.held (λ base. LeavesOnly (IsOldNoneOrMade base (LaysHere base)) before.output after.output)
+      → IfSome before.input.held (λ image. IsImage image → IfSome before.output.held (λ base. LeavesOnly (IsOldNoneOrMade base (Made image)) before.output after.output))
+  leaves_made leaves =
+      IfSome_then before.input.held finds.1 (λ image right is.
+      IfSome_then before.output.held (both_told before.output.held (λ (base : Image). found.room ≡ room_of (length base))
+      (λ (base : Image). LeavesOnly (IsOldNoneOrMade base (LaysHere base)) before.output after.output)
+      finds.0.told leaves) (λ base told.
+      weaken told.1 (λ left firsts outcome chance.
+      ⊎_elim (λ old. inl old) (λ other. inr (⊎_elim (λ none. inl none) (λ made. inr (made_of_saved image base left is right told.0 made)) other)) (outcome chance))))
+
+-- nothing is refused of an input whose superblock has no fault, where there is room
+module _ {S : Type 0} (kind : Kind) (making : S → Making) (line : S → List ℕ) (all_of : Image → S) (before after : Objects) (found : Salvaged S)
+    (finds : FindsSaved kind all_of before after found) (image base : Image) (read : before.input.held ≡ Some image) (held : before.output.held ≡ Some base)
+    (sound : faults kind stages.Whole image ≡ []) where
+  pub saved_is : found.saved ≡ all_of image
+  saved_is = (at_told before.input.held image (λ (i : Image). (found.report ≡ report_of (faults kind stages.Super i)) × (found.saved ≡ all_of i)) read finds.1).1
+
+  pub answered_at_zero : (making (all_of image)).need (room_of (length base)) ≤ room_of (length base) → (saved_answer making line found).status ≡ 0
+  answered_at_zero enough =
+      let right = at_told before.input.held image (λ (i : Image). (found.report ≡ report_of (faults kind stages.Super i)) × (found.saved ≡ all_of i)) read finds.1 in
+      let room = at_told before.output.held base (λ (i : Image). found.room ≡ room_of (length i)) held finds.0.told in
+      let none : found.report.total ≡ 0 =
+      ap (λ (r : Reported). r.total) right.0 ∙ ap (λ (list : List Fault). length list) (none_of_super kind image sound) in
+      answers_zero making line found none (rw (saved_is, room) enough)
+
+-- what holds of an output that is told, and of an input
+pub at_both : (before after : Objects) (image base : Image) (Q : Image → Image → Type 0) → before.input.held ≡ Some image → before.output.held ≡ Some base → IsImage image
+    → IfSome before.input.held (λ (i : Image). IsImage i → IfSome before.output.held (λ (b : Image). IfSome after.output.held (Q i))) → IfSome after.output.held (Q image)
+at_both before after image base Q read held is holds =
+    at_told before.output.held base (λ (b : Image). IfSome after.output.held (Q image)) held
+    (at_told before.input.held image (λ (i : Image). IsImage i → IfSome before.output.held (λ (b : Image). IfSome after.output.held (Q i))) read holds is)
+
+-- a repair with shared leaves or without
+module _ (shared : Bool) (Made : Image → Image → Type 0) (so : IsMadeSo Thin (saved_making shared) (saved_of shared) Made) (from to : List ℕ) (before after : Objects) where
+  abbrev IsAnsweredSo : ℕ → Type 0
+  IsAnsweredSo = IsAnswered (terms_of (Some (repair shared from to))) before after
+
+  pub repair_holds : IsAnsweredSo 0
+      → IfSome before.input.held (λ image. IsImage image → IfSome before.output.held (λ base. IfSome after.output.held (λ made. Made image made × HoldsSynced made after.output)))
+  repair_holds answered =
+      holds_made Thin (saved_making shared) (λ _. []) (saved_of shared) Made so before after answered.finding answered.found (answered.leaves.output.made.output.made refl)
+
+  pub repair_leaves : (status : ℕ) → IsAnsweredSo status
+      → IfSome before.input.held (λ image. IsImage image → IfSome before.output.held (λ base. LeavesOnly (IsOldNoneOrMade base (Made image)) before.output after.output))
+  repair_leaves status answered =
+      leaves_made Thin (saved_making shared) (λ _. []) (saved_of shared) Made so before after answered.finding answered.found answered.leaves.output.made.output.crash
+
+pub repair_done : (shared : Bool) (image base : Image) (from to : List ℕ) (before after : Objects) → IsSoundRepair image base before → (status : ℕ)
+    → (saved_making shared (saved_of shared image)).need (room_of (length base)) ≤ room_of (length base)
+    → IsAnswered (terms_of (Some (repair shared from to))) before after status → NoFaults before after → (status ≡ 0) ⊎ (status ≡ 7)
+repair_done shared image base from to before after sound status enough answered nothing =
+    let zero = answered_at_zero Thin (saved_making shared) (λ _. []) (saved_of shared) before after answered.finding answered.found image base sound.read sound.held sound.sound enough in
+    subst (λ (n : ℕ). (status ≡ n) ⊎ (status ≡ 7)) zero (answered.complete nothing)
+
+-- what is laid of a lawful pool is a clean image of it
 module _ (lawful : (image : Image) → IsImage image → faults Thin stages.Super image ≡ [] → IsLawfulPool (salvage image))
     (clean : (m : ThinPool) (base image : Image) → IsLawfulPool m → thin_need m (room_of (length base)) ≤ room_of (length base)
     → IsLaid (laid_pool m (room_of (length base))) base image → IsCleanPool image m) where
-  -- what is laid of what was saved is a clean image of it
-  made_of_salvage : (image base made : Image) (saved : Salvaged) → IsImage image
-      → (saved.report ≡ report_of (faults Thin stages.Super image)) × (saved.pool ≡ salvage image) → saved.room ≡ room_of (length base)
-      → LaysPool (repair_answer saved) saved.pool saved.room base made → IsCleanPool made (salvage image)
-  made_of_salvage image base made saved is right room laid =
-      let given = not_refused saved laid.0 in
-      let none = none_at_zero image saved right.0 laid.0 in
-      clean (salvage image) base made (lawful image is none) (rw (right.1, room) at given.room) (rw (right.1, room) at laid.1)
+  pub pools_made_so : IsMadeSo Thin (saved_making false) (saved_of false) (λ image made. IsCleanPool made (salvage image))
+  pools_made_so image base made is none enough laid = clean (salvage image) base made (lawful image is none) enough laid
 
-  module _ (from to : List ℕ) (before after : Objects) where
-    -- what the output holds at status 0, and that what is saved is lawful then
-    pub holds_at_zero : (Q : Image → Image → Type 0)
-        → ((image made : Image) → IsLawfulPool (salvage image) → IsCleanPool made (salvage image) × HoldsSynced made after.output → Q image made)
-        → IsRepairAnswered from to before after 0
-        → IfSome before.input.held (λ (image : Image). IsImage image → IfSome before.output.held (λ (base : Image). IfSome after.output.held (Q image)))
-    holds_at_zero Q so answered =
-        let saved = answered.finding in
-        IfSome_then before.input.held answered.found.1 (λ image right is.
-        IfSome_then before.output.held (both_told before.output.held (λ (base : Image). saved.room ≡ room_of (length base))
-        (λ (base : Image). IfSome after.output.held (λ (made : Image). LaysPool (repair_answer saved) saved.pool saved.room base made × HoldsSynced made after.output))
-        answered.found.0.told (answered.leaves.output.made.output.made refl)) (λ base told.
-        IfSome_then after.output.held told.1 (λ made held.
-        so image made (lawful image is (none_at_zero image saved right.0 held.0.0)) (made_of_salvage image base made saved is right told.0 held.0, held.1))))
+  pub holds_salvage : (from to : List ℕ) (before after : Objects) → IsRepairAnswered from to before after 0 → HoldsSalvage before after
+  holds_salvage = repair_holds false (λ image made. IsCleanPool made (salvage image)) pools_made_so
 
-    pub holds_salvage : IsRepairAnswered from to before after 0 → HoldsSalvage before after
-    holds_salvage = holds_at_zero (λ image made. IsCleanPool made (salvage image) × HoldsSynced made after.output) (λ image made lawful_too held. held)
-
-    -- what a crash leaves
-    pub leaves_salvage : (status : ℕ) → IsRepairAnswered from to before after status → LeavesSalvage before after
-    leaves_salvage status answered =
-        let saved = answered.finding in
-        IfSome_then before.input.held answered.found.1 (λ image right is.
-        IfSome_then before.output.held (both_told before.output.held (λ (base : Image). saved.room ≡ room_of (length base))
-        (λ (base : Image). LeavesOnly (IsOldNoneOrMade base (LaysPool (repair_answer saved) saved.pool saved.room base)) before.output after.output)
-        answered.found.0.told answered.leaves.output.made.output.crash) (λ base told.
-        weaken told.1 (λ left firsts outcome chance.
-        ⊎_elim (λ old. inl old) (λ other. inr (⊎_elim (λ none. inl none) (λ made. inr (made_of_salvage image base left saved is right told.0 made)) other)) (outcome chance))))
-
--- where the superblock has no fault, and there is room, nothing is refused
-answers_zero : (saved : Salvaged) → saved.report.total ≡ 0 → thin_need saved.pool saved.room ≤ saved.room → (repair_answer saved).status ≡ 0
-answers_zero saved none enough = rw (eq-eqb saved.report.total 0 none, le-ltb saved.room (thin_need saved.pool saved.room) enough) refl
+  pub leaves_salvage : (from to : List ℕ) (before after : Objects) (status : ℕ) → IsRepairAnswered from to before after status → LeavesSalvage before after
+  leaves_salvage = repair_leaves false (λ image made. IsCleanPool made (salvage image)) pools_made_so
 
 module _ (all_saved : (image : Image) → HasBytes image → faults Thin stages.Whole image ≡ [] → salvage image ≡ thin_meaning image)
     (image base : Image) (from to : List ℕ) (before after : Objects) (sound : IsSoundRepair image base before) where
   -- a sound pool is repaired
   pub repaired : (status : ℕ) → thin_need (thin_meaning image) (room_of (length base)) ≤ room_of (length base)
       → IsRepairAnswered from to before after status → NoFaults before after → (status ≡ 0) ⊎ (status ≡ 7)
-  repaired status enough answered nothing =
-      let saved = answered.finding in
-      let right = at_told before.input.held image (λ (i : Image). (saved.report ≡ report_of (faults Thin stages.Super i)) × (saved.pool ≡ salvage i)) sound.read answered.found.1 in
-      let room = at_told before.output.held base (λ (i : Image). saved.room ≡ room_of (length i)) sound.held answered.found.0.told in
-      let none : saved.report.total ≡ 0 =
-      ap (λ (r : Reported). r.total) right.0 ∙ ap (λ (list : List Fault). length list) (none_of_super image sound.sound) in
-      let pool : saved.pool ≡ thin_meaning image = right.1 ∙ all_saved image sound.is.bytes sound.sound in
-      rw (answers_zero saved none (rw (pool, room) enough)) at (answered.complete nothing)
+  repaired status enough = repair_done false image base from to before after sound status (rw (all_saved image sound.is.bytes sound.sound) enough)
 
   -- and means the same
   pub repaired_same : HoldsSalvage before after → IfSome after.output.held (λ (repaired : Image). thin_meaning repaired ≡ thin_meaning image)
   repaired_same holds =
       IfSome_then after.output.held
-      (at_told before.output.held base (λ (i : Image). IfSome after.output.held (λ (repaired : Image). IsCleanPool repaired (salvage image) × HoldsSynced repaired after.output)) sound.held
-      (at_told before.input.held image
-      (λ (i : Image). IsImage i → IfSome before.output.held (λ (base : Image). IfSome after.output.held (λ (repaired : Image). IsCleanPool repaired (salvage i) × HoldsSynced repaired after.output)))
-      sound.read holds sound.is))
+      (at_both before after image base (λ (i made : Image). IsCleanPool made (salvage i) × HoldsSynced made after.output) sound.read sound.held sound.is holds)
       (λ repaired is. is.0.means ∙ all_saved image sound.is.bytes sound.sound)

@@ -1,29 +1,26 @@
 -- In what is saved of a pool sharing is seen, where it has the times that kernels keep.
-use Rattle.std.proofs.Common.{◌≡◌, ℕ, ◌/◌, ◌^◌, ◌<◌, Bool, List, [], Option, Some, None, map, filter, not, refl, sym, subst, ap, ◌∙◌, ◌≤◌, length, arith}
+use Rattle.std.proofs.Common.{◌≡◌, ℕ, ◌/◌, ◌^◌, ◌<◌, Bool, List, [], Option, Some, None, map, filter, not, refl, sym, subst, ap, ◌∙◌, arith}
 use Rattle.std.specs.List.{Contains}
+use Rattle.std.proofs.lemmas.Option.{IfSome_then}
 use Rattle.std.specs.Option.{unwrap_or}
 use Rattle.pd_kinds.specs.declared.kind.Kind.TheVariants.{Thin}
-use Rattle.pd_kinds.specs.declared.kind.Stage.TheVariants as stages
 use Rattle.pd_kinds.specs.Edge.{is_outside}
 use Rattle.pd_kinds.specs.Graph.{block_at}
-use Rattle.pd_kinds.specs.Image.{IsImage}
-use Rattle.pd_kinds.specs.Limits.{room_of}
 use Rattle.pd_kinds.specs.Meaning.{ThinDevice, ThinPool, thin_meaning}
 use Rattle.pd_kinds.specs.Node.{Entry}
 use Rattle.pd_kinds.specs.ThinSuper.{ThinFields, thin_fields}
 use Rattle.pd_kinds.specs.Value.{details_code}
-use Rattle.pd_kinds.specs.Stages.{faults}
-use Rattle.pd_laid.specs.Laid.{IsLaid}
-use Rattle.pd_laid.specs.LaidThin.{laid_pool}
 use Rattle.pd_laid_thin.specs.CleanPool.{IsCleanPool}
-use Rattle.pd_spells.specs.ThinNeed.{thin_need}
 use Rattle.pd_answers.specs.Answer.{Objects}
-use Rattle.pd_exact.specs.Exact.{IsRepairAnswered}
+use Rattle.pd_answers.specs.Promises.{terms_of}
+use Rattle.pd_answers.specs.Repairs.{saved_making, saved_of}
+use Rattle.pd_answers.specs.Requests.{repair}
+use Rattle.pd_answers.specs.Terms.{IsAnswered}
 use Rattle.pd_laid.specs.Salvage.{salvaged_entries, salvaged_device, salvage, salvage_from}
 use Rattle.pd_spells.specs.Lawful.{IsLawfulPool}
 use Rattle.pd_exact.specs.Sharing.{HasTimesOfSharing, IsShared, MappingPlace, SeesSharingWhere, SharingIsSeen, details_in}
 use Rattle.pd_exact.proofs.AmongLemmas.{comes_from}
-use Rattle.pd_exact.proofs.Repaired.{holds_at_zero}
+use Rattle.pd_exact.proofs.Repaired.{IsMadeSo, repair_holds}
 use Rattle.pd_exact.proofs.Restored.{Image}
 
 -- the entries of the mapping tree whose devices are saved
@@ -72,12 +69,13 @@ module _ (image : List (List ℕ)) (lawful : IsLawfulPool (salvage image)) (time
   pub saved_sees : SharingIsSeen (salvage image)
   saved_sees place shared = seen_by place shared (details_in image place.device.id) refl
 
--- so it is in the repaired pool
-module _ (lawful : (image : Image) → IsImage image → faults Thin stages.Super image ≡ [] → IsLawfulPool (salvage image))
-    (clean : (m : ThinPool) (base image : Image) → IsLawfulPool m → thin_need m (room_of (length base)) ≤ room_of (length base)
-    → IsLaid (laid_pool m (room_of (length base))) base image → IsCleanPool image m) where
-  pub sees_sharing : (IsSo : Image → Type 0) → ((image : Image) → IsSo image → HasTimesOfSharing image)
-      → (from to : List ℕ) (before after : Objects) → IsRepairAnswered from to before after 0 → SeesSharingWhere IsSo before after
-  sees_sharing IsSo times from to before after =
-      holds_at_zero lawful clean from to before after (λ image made. IsSo image → SharingIsSeen (thin_meaning made))
-      (λ image made lawful_pool held so. subst SharingIsSeen (sym held.0.means) (saved_sees image lawful_pool (times image so)))
+-- so it is in the repaired pool, with shared leaves or without
+abbrev pub IsLawfulRepair : Image → Image → Type 0
+IsLawfulRepair image made = IsLawfulPool (salvage image) × IsCleanPool made (salvage image)
+
+pub sees_sharing : (shared : Bool) → IsMadeSo Thin (saved_making shared) (saved_of shared) IsLawfulRepair → (IsSo : Image → Type 0) → ((image : Image) → IsSo image → HasTimesOfSharing image)
+    → (from to : List ℕ) (before after : Objects) → IsAnswered (terms_of (Some (repair shared from to))) before after 0 → SeesSharingWhere IsSo before after
+sees_sharing shared made_so IsSo times from to before after answered =
+    IfSome_then before.input.held (repair_holds shared IsLawfulRepair made_so from to before after answered) (λ image told is.
+    IfSome_then before.output.held (told is) (λ base held.
+    IfSome_then after.output.held held (λ made here so. subst SharingIsSeen (sym here.0.1.means) (saved_sees image here.0.0 (times image so)))))

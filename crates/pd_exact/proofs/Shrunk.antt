@@ -20,7 +20,7 @@ use Rattle.pd_answers.specs.Answer.{Objects}
 use Rattle.pd_answers.specs.CachedView.{blocks_each, is_block_size_bad}
 use Rattle.pd_answers.specs.MovedPool.{ReadTheSame, copy_of_move, data_after, data_need, end_of_pool, free_blocks, moved_need, moved_pool, moves_to, read_at, sources}
 use Rattle.pd_answers.specs.Outputs.{IsWorkDone}
-use Rattle.pd_answers.specs.Repairs.{LaysPool}
+use Rattle.pd_answers.specs.Makings.{LaysPool}
 use Rattle.pd_answers.specs.Shrinks.{IsGroundOf, ShrinkFound, ShrinkGround, lack_of, moves_of, pool_after, shrink_answer}
 use Rattle.pd_answers.specs.Writebacks.{KeepsOthers}
 use Rattle.pd_changed.specs.Moving.{AreFree, AreUnnamed, IsMoving}

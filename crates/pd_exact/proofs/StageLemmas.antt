@@ -1,6 +1,7 @@
 -- Where there is no fault up to a stage, there is none up to an earlier one.
 use Rattle.std.proofs.Common.{◌≡◌, inl, inr, nat_lt, List, [], ◌∷◌, ◌++◌, length, refl}
 use Rattle.std.proofs.lemmas.Bool.{cases_Bool}
+use Rattle.pd_kinds.specs.declared.kind.Kind.{Kind}
 use Rattle.pd_kinds.specs.declared.kind.Kind.TheVariants.{Thin}
 use Rattle.pd_kinds.specs.declared.kind.Stage.{Stage}
 use Rattle.pd_kinds.specs.declared.kind.Stage.TheVariants as stages
@@ -15,9 +16,9 @@ none_before checked image (stage ∷ earlier) later none = elim (cases_Bool (nat
   | inr nothing ↦ rw nothing (none_before checked image earlier later (rw nothing at none))
 ]
 
-pub none_of_super : (image : Image) → faults Thin stages.Whole image ≡ [] → faults Thin stages.Super image ≡ []
+pub none_of_super : (kind : Kind) (image : Image) → faults kind stages.Whole image ≡ [] → faults kind stages.Super image ≡ []
 unfolding faults
-none_of_super image none = none_before (checked_of Thin image) image (stages.Super ∷ []) (stages.Walk ∷ stages.Order ∷ stages.Whole ∷ []) none
+none_of_super kind image none = none_before (checked_of kind image) image (stages.Super ∷ []) (stages.Walk ∷ stages.Order ∷ stages.Whole ∷ []) none
 
 pub none_up_to_whole : (image : Image) → faults Thin stages.Counts image ≡ [] → faults Thin stages.Whole image ≡ []
 unfolding faults

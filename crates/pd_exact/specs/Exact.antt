@@ -182,7 +182,7 @@ LeavesOldOrCleared flagged passing before after =
 
 -- a repair of one image onto another was asked, and was answered with this status
 abbrev pub IsRepairAnswered : List ℕ → List ℕ → Objects → Objects → ℕ → Type 0
-IsRepairAnswered from to = IsAnswered (terms_of (Some (repair from to)))
+IsRepairAnswered from to = IsAnswered (terms_of (Some (repair false from to)))
 
 -- the output holds an image that is clean and means what is saved of the input, and nothing of it is unsynced
 abbrev pub HoldsSalvage : Objects → Objects → Type 0

@@ -1,4 +1,5 @@
 pub mod Exact
+pub mod Saved
 pub mod Words
 pub mod Writeback
 pub mod Search

@@ -15,9 +15,11 @@ use Rattle.pd_laid_thin.specs.CleanPool.{IsCleanPool}
 use Rattle.pd_answers.specs.Answer.{Objects}
 use Rattle.pd_answers.specs.Promises.{terms_of}
 use Rattle.pd_answers.specs.Requests.{search}
+use Rattle.pd_answers.specs.Searches.{found_shape}
 use Rattle.pd_answers.specs.SearchLines.{roots_line}
 use Rattle.pd_answers.specs.Terms.{IsAnswered}
 use Rattle.pd_answers.specs.Words.{number_below}
+use Rattle.pd_exact.specs.Saved.{KeepsShape}
 use Rattle.pd_exact.specs.Words.{IsName}
 
 -- the numbers that are given in place of a superblock's fit its fields
@@ -26,38 +28,74 @@ pub record DoNumbersFit (transaction block_size blocks : ℕ) : Type 0 where
   pub block_size_fits : block_size < 2 ^ 32
   pub blocks_fit : blocks ≤ 2 ^ 40
 
--- a search in one image for a pool with these numbers, which is laid onto another, was asked, and was answered with this status
+-- a search in one image for a pool with these numbers, which is laid onto another, was asked, and was answered with this status;
+-- and one that keeps the leaves that the pool's devices share
 abbrev pub IsSearchAnswered : List ℕ → List ℕ → ℕ → ℕ → ℕ → Objects → Objects → ℕ → Type 0
-IsSearchAnswered from to transaction block_size blocks = IsAnswered (terms_of (Some (search from to transaction block_size blocks)))
+IsSearchAnswered from to transaction block_size blocks = IsAnswered (terms_of (Some (search false from to transaction block_size blocks)))
 
--- the second image is clean, and means the pool of the best roots of the first one
-pub record IsOfBestRoots (transaction block_size blocks : ℕ) (image made : List (List ℕ)) : Type 0 where
+abbrev pub IsSharedSearchAnswered : List ℕ → List ℕ → ℕ → ℕ → ℕ → Objects → Objects → ℕ → Type 0
+IsSharedSearchAnswered from to transaction block_size blocks = IsAnswered (terms_of (Some (search true from to transaction block_size blocks)))
+
+-- what an image is of roots of another one
+abbrev pub OfRoots : Type 1
+OfRoots = List (List ℕ) → FoundRoots → List (List ℕ) → Type 0
+
+-- it is clean, and means their pool
+abbrev pub IsPoolOf : ℕ → ℕ → ℕ → OfRoots
+IsPoolOf transaction block_size blocks image roots made = IsCleanPool made (found_pool (lost_graph image blocks) image transaction block_size roots)
+
+-- and it has its shape too: the leaves that the devices share
+abbrev pub IsShapeOf : ℕ → ℕ → ℕ → OfRoots
+IsShapeOf transaction block_size blocks image roots made =
+    KeepsShape made (found_pool (lost_graph image blocks) image transaction block_size roots) (found_shape (lost_graph image blocks) image transaction block_size roots)
+
+-- the second image is so of the best roots of the first one
+pub record IsOfBest (blocks : ℕ) (Made : OfRoots) (image made : List (List ℕ)) : Type 0 where
   pub roots : FoundRoots
   pub best : AreBest (lost_graph image blocks) image roots
-  pub pool : IsCleanPool made (found_pool (lost_graph image blocks) image transaction block_size roots)
+  pub pool : Made image roots made
 
 -- the output holds such an image, nothing of it is unsynced, and the line of its roots was put to `out`
-pub record HoldsOfRoots (transaction block_size blocks : ℕ) (image made : List (List ℕ)) (before after : Objects) : Type 0 where
-  pub found : IsOfBestRoots transaction block_size blocks image made
+pub record HoldsOfRoots (blocks : ℕ) (Made : OfRoots) (image made : List (List ℕ)) (before after : Objects) : Type 0 where
+  pub found : IsOfBest blocks Made image made
   pub synced : HoldsSynced made after.output
   pub line : Appends (roots_line found.roots) before.out.written after.out.written
 
-abbrev pub HoldsFoundPool : ℕ → ℕ → ℕ → Objects → Objects → Type 0
-HoldsFoundPool transaction block_size blocks before after =
+abbrev pub HoldsFound : ℕ → OfRoots → Objects → Objects → Type 0
+HoldsFound blocks Made before after =
     IfSome before.input.held (λ image. IsImage image → IfSome before.output.held (λ base.
-    IfSome after.output.held (λ made. HoldsOfRoots transaction block_size blocks image made before after)))
+    IfSome after.output.held (λ made. HoldsOfRoots blocks Made image made before after)))
 
 -- the output holds such an image, with nothing unsynced, whatever was put
-abbrev pub HoldsBestPool : ℕ → ℕ → ℕ → Objects → Objects → Type 0
-HoldsBestPool transaction block_size blocks before after =
+abbrev pub HoldsBest : ℕ → OfRoots → Objects → Objects → Type 0
+HoldsBest blocks Made before after =
     IfSome before.input.held (λ image. IsImage image → IfSome before.output.held (λ base.
-    IfSome after.output.held (λ made. IsOfBestRoots transaction block_size blocks image made × HoldsSynced made after.output)))
+    IfSome after.output.held (λ made. IsOfBest blocks Made image made × HoldsSynced made after.output)))
 
 -- a crash at any moment leaves, by no chance, the old image, no valid superblock, or such an image
-abbrev pub LeavesFoundPool : ℕ → ℕ → ℕ → Objects → Objects → Type 0
-LeavesFoundPool transaction block_size blocks before after =
+abbrev pub LeavesFound : ℕ → OfRoots → Objects → Objects → Type 0
+LeavesFound blocks Made before after =
     IfSome before.input.held (λ image. IsImage image → IfSome before.output.held (λ base.
-    LeavesOnly (IsOldNoneOrMade base (IsOfBestRoots transaction block_size blocks image)) before.output after.output))
+    LeavesOnly (IsOldNoneOrMade base (IsOfBest blocks Made image)) before.output after.output))
+
+-- of a pool, and of one with its shared leaves
+abbrev pub HoldsFoundPool : ℕ → ℕ → ℕ → Objects → Objects → Type 0
+HoldsFoundPool transaction block_size blocks = HoldsFound blocks (IsPoolOf transaction block_size blocks)
+
+abbrev pub HoldsBestPool : ℕ → ℕ → ℕ → Objects → Objects → Type 0
+HoldsBestPool transaction block_size blocks = HoldsBest blocks (IsPoolOf transaction block_size blocks)
+
+abbrev pub LeavesFoundPool : ℕ → ℕ → ℕ → Objects → Objects → Type 0
+LeavesFoundPool transaction block_size blocks = LeavesFound blocks (IsPoolOf transaction block_size blocks)
+
+abbrev pub HoldsFoundShape : ℕ → ℕ → ℕ → Objects → Objects → Type 0
+HoldsFoundShape transaction block_size blocks = HoldsFound blocks (IsShapeOf transaction block_size blocks)
+
+abbrev pub HoldsBestShape : ℕ → ℕ → ℕ → Objects → Objects → Type 0
+HoldsBestShape transaction block_size blocks = HoldsBest blocks (IsShapeOf transaction block_size blocks)
+
+abbrev pub LeavesFoundShape : ℕ → ℕ → ℕ → Objects → Objects → Type 0
+LeavesFoundShape transaction block_size blocks = LeavesFound blocks (IsShapeOf transaction block_size blocks)
 
 -- no two trees of the input fit each other, and the output wasn't written
 abbrev pub HasNoRoots : ℕ → Objects → Objects → Type 0

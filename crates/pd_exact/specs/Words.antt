@@ -1,7 +1,7 @@
 -- Trusted base.
 -- What status 0 says to whoever gave the words of a command line: of what was read, of what was put to `out`, and of what
 -- the output holds.
-use Rattle.std.specs.Prelude.{◌≡◌, ℕ, true, List, [], ◌∷◌, Option, Some, None, IfSome, codes}
+use Rattle.std.specs.Prelude.{◌≡◌, ℕ, Bool, true, false, List, [], ◌∷◌, Option, Some, None, IfSome, codes}
 use Rattle.pd_kinds.specs.declared.kind.Kind.{Kind}
 use Rattle.pd_kinds.specs.declared.kind.Kind.TheVariants.{Thin, Cache, Era}
 use Rattle.pd_kinds.specs.declared.kind.Passing.{Passing}
@@ -21,7 +21,7 @@ use Rattle.pd_answers.specs.Generated.{generated_text}
 use Rattle.pd_answers.specs.Promises.{terms_of}
 use Rattle.pd_answers.specs.QueryLines.{image_text}
 use Rattle.pd_answers.specs.Terms.{IsAnswered}
-use Rattle.pd_answers.specs.Words.{asked, is_value}
+use Rattle.pd_answers.specs.Words.{asked, is_value, version_of}
 use Rattle.pd_exact.specs.Exact.{IsOfText, LosesNothing, TellsClean, TellsPassed}
 
 -- a call that was given the words, without the program's own name, ended with this status
@@ -41,6 +41,17 @@ to_file (Some file) = codes "-o" ∷ file ∷ []
 abbrev pub in_version : Option (List ℕ) → List (List ℕ)
 in_version None = []
 in_version (Some word) = codes "--metadata-version" ∷ word ∷ []
+
+-- a version that may be left out is said by its word
+abbrev pub IsVersionSaid : Option (List ℕ) → Option ℕ → Type 0
+IsVersionSaid None None = Unit {0}
+IsVersionSaid (Some word) (Some version) = IsName word × (version_of (Some word) ≡ Some version)
+IsVersionSaid _ _ = ⊥
+
+-- `--shared`, where shared leaves are kept
+abbrev pub with_sharing : Bool → List (List ℕ)
+with_sharing false = []
+with_sharing true = codes "--shared" ∷ []
 
 -- `--ignore-non-fatal-errors`, where leaks pass
 abbrev pub letting_pass : Passing → List (List ℕ)

@@ -1,19 +1,26 @@
-//! What a restored pool, cache or era target is, and which leaves the pool's devices share, what a repaired or found pool is, what a check
+//! What a restored pool, cache or era target is, and which leaves the pool's devices share, what a repaired or found pool is, with its
+//! shared leaves or without, and a repaired cache, what a check
 //! says of an image, what a pool or a cache is whose flag was cleared, what a cache is that was written back, and what a pool is that was made smaller:
 //! the laws of laid images, of sound images, of shapes, of what is saved, of texts, of clean images, of alike ones, of settled ones and of
 //! moved data blocks, in the terms of the tools.
 #![tactic(auto)]
 
+mod cache_repairs;
 mod caches;
 mod laws;
 mod repairs;
 mod searches;
 mod shared;
+mod shared_repairs;
 mod shrinks;
 mod targets;
 mod words;
 mod writebacks;
 
+pub use cache_repairs::{
+    crashed_repair_leaves_no_other_cache, repaired_cache_is_clean,
+    repaired_sound_cache_means_the_same, saved_caches_are_lawful,
+};
 pub use caches::{
     crashed_restore_leaves_no_other_cache, restored_cache_dump_means_the_same,
     restored_cache_is_clean, sound_caches_are_lawful,
@@ -33,6 +40,12 @@ pub use searches::{
     lost_pools_are_found, searched_pool_is_clean,
 };
 pub use shared::{laid_shapes_are_clean, restored_shared_dump_keeps_the_shape};
+pub use shared_repairs::{
+    crashed_shared_repair_leaves_no_other_pool, crashed_shared_search_leaves_no_other_pool,
+    found_shapes_are_lawful, repaired_pool_keeps_its_sharing,
+    repaired_sound_pool_keeps_its_sharing, saved_shapes_are_lawful,
+    searched_pool_keeps_its_sharing, shared_repair_sees_sharing,
+};
 pub use shrinks::{shrunk_pool_is_clean_and_reads_the_same, stopped_shrink_keeps_what_is_read};
 pub use targets::{
     crashed_restore_leaves_no_other_target, restored_target_dump_means_the_same,
@@ -40,14 +53,15 @@ pub use targets::{
 };
 pub use words::{
     cache_check_tells_clean, cache_check_tells_what_passes, cache_dump_puts_the_text,
-    cache_restore_makes_the_cache, cache_writeback_leaves_nothing_dirty,
-    checks_clear_the_flag_alone, checks_let_leaks_pass, era_check_tells_clean,
-    era_dump_puts_the_text, era_invalidate_puts_the_written_blocks, era_restore_makes_the_target,
-    thin_check_lets_leaks_pass_and_clears, thin_check_tells_clean,
+    cache_repair_makes_what_is_saved, cache_restore_makes_the_cache,
+    cache_writeback_leaves_nothing_dirty, checks_clear_the_flag_alone, checks_let_leaks_pass,
+    era_check_tells_clean, era_dump_puts_the_text, era_invalidate_puts_the_written_blocks,
+    era_restore_makes_the_target, thin_check_lets_leaks_pass_and_clears, thin_check_tells_clean,
     thin_check_tells_clean_and_clears, thin_dump_puts_the_text, thin_generate_puts_its_text,
     thin_ls_puts_the_devices, thin_rehearse_makes_its_pool, thin_repair_finds_the_roots,
-    thin_repair_makes_what_is_saved, thin_repair_sees_sharing, thin_restore_is_asked,
-    thin_restore_makes_the_pool, thin_rmap_puts_the_mappings, thin_shared_dump_puts_the_shape,
+    thin_repair_finds_the_sharing, thin_repair_keeps_the_sharing, thin_repair_makes_what_is_saved,
+    thin_repair_sees_sharing, thin_restore_is_asked, thin_restore_makes_the_pool,
+    thin_rmap_puts_the_mappings, thin_shared_dump_puts_the_shape,
     thin_shrink_makes_the_pool_smaller,
 };
 pub use writebacks::{stopped_writeback_keeps_the_view, written_back_cache_is_clean};

@@ -18,12 +18,14 @@ ghost use Rattle.pd_answers.specs.QueryLines.{device_list_lines, rmap_lines, sin
 ghost use Rattle.pd_answers.specs.Requests.{restore};
 ghost use Rattle.pd_answers.specs.Words.{Region, asked, generated_number, is_value, number_below, region_of, version_of};
 ghost use Rattle.pd_exact.specs.Exact.{HoldsCacheOfText, HoldsCleared, HoldsPoolOfText, HoldsSalvage, HoldsTargetOfText, LeavesOldOrCleared};
+ghost use Rattle.pd_exact.specs.Saved.{HoldsSavedCache, HoldsSavedShape, PutsKept};
 ghost use Rattle.pd_exact.specs.Sharing.{HasTimesOfSharing, IsDamagedPool, IsKeptPool, SeesSharingWhere};
-ghost use Rattle.pd_exact.specs.Search.{HasNoRoots, HoldsBestPool, HoldsFoundPool, NumberWords, SayNumbers, with_numbers};
+ghost use Rattle.pd_exact.specs.Search.{HasNoRoots, HoldsBestPool, HoldsBestShape, HoldsFoundPool, HoldsFoundShape, NumberWords, SayNumbers, with_numbers};
 ghost use Rattle.pd_exact.specs.Shrink.{HoldsShrunk};
-ghost use Rattle.pd_exact.specs.Words.{CallEnds, HoldsGenerated, InputLosesNothing, IsName, PutsGenerated, PutsOfInput, PutsShapeOfInput, PutsTextOfInput, TellsWhetherClean, TellsWhetherPassed, check_name, in_version, letting_pass, to_file};
+ghost use Rattle.pd_exact.specs.Words.{CallEnds, HoldsGenerated, InputLosesNothing, IsName, IsVersionSaid, PutsGenerated, PutsOfInput, PutsShapeOfInput, PutsTextOfInput, TellsWhetherClean, TellsWhetherPassed, check_name, in_version, letting_pass, to_file};
 ghost use Rattle.pd_exact.specs.Writeback.{HoldsWrittenBack};
 
+use crate::cache_repairs::repaired_cache_is_clean;
 use crate::caches::{restored_cache_is_clean, sound_caches_are_lawful};
 use crate::laws::{
     checks_tell_clean_images, cleared_image_is_clean, clearing_checks_tell_what_passes,
@@ -32,6 +34,9 @@ use crate::laws::{
 use crate::repairs::{repaired_pool_is_clean, repaired_pool_sees_sharing};
 use crate::searches::searched_pool_is_clean;
 use crate::shared::laid_shapes_are_clean;
+use crate::shared_repairs::{
+    repaired_pool_keeps_its_sharing, searched_pool_keeps_its_sharing, shared_repair_sees_sharing,
+};
 use crate::shrinks::shrunk_pool_is_clean_and_reads_the_same;
 use crate::targets::{restored_target_is_clean, sound_targets_are_lawful};
 use crate::writebacks::written_back_cache_is_clean;
@@ -205,6 +210,41 @@ pub fn thin_repair_finds_the_roots()
     ensures none { (from to : List ℕ) (words : NumberWords) (transaction block_size blocks : ℕ) (before after : Objects) → IsName from → IsName to → SayNumbers words transaction block_size blocks → CallEnds (codes "thin_repair" ∷ codes "-i" ∷ from ∷ codes "-o" ∷ to ∷ with_numbers words) 1 before after → HasNoRoots blocks before after }
 {
     searched_pool_is_clean();
+}
+
+/// `thin_repair --shared -i IMAGE -o IMAGE`: status 0 says that the output is clean and means what can be saved of the input, that its
+/// devices share each leaf that two or more of them had whole, and that the data blocks of such a leaf are counted once, with nothing
+/// unsynced; of an input without faults up to the stage Whole that is all of it, shared as it was. And sharing is seen in it, where what is
+/// saved has the times that kernels keep, and so where the input was a pool that kernels kept, with blocks behind its superblock damaged.
+pub fn thin_repair_keeps_the_sharing()
+    ensures made { (from to : List ℕ) (before after : Objects) → IsName from → IsName to → CallEnds (codes "thin_repair" ∷ codes "--shared" ∷ codes "-i" ∷ from ∷ codes "-o" ∷ to ∷ []) 0 before after → HoldsSavedShape before after }
+    ensures saved { (from to : List ℕ) (before after : Objects) → IsName from → IsName to → CallEnds (codes "thin_repair" ∷ codes "--shared" ∷ codes "-i" ∷ from ∷ codes "-o" ∷ to ∷ []) 0 before after → SeesSharingWhere HasTimesOfSharing before after }
+    ensures damaged { (whole : List (List ℕ)) (from to : List ℕ) (before after : Objects) → IsKeptPool whole → IsName from → IsName to → CallEnds (codes "thin_repair" ∷ codes "--shared" ∷ codes "-i" ∷ from ∷ codes "-o" ∷ to ∷ []) 0 before after → SeesSharingWhere (IsDamagedPool whole) before after }
+{
+    repaired_pool_keeps_its_sharing();
+    shared_repair_sees_sharing();
+}
+
+/// `thin_repair --shared -i IMAGE -o IMAGE --transaction-id TRANSACTION --data-block-size SIZE --nr-data-blocks BLOCKS`: status 0 says that
+/// the output is clean and means the pool of the input's best roots, whatever its block 0 holds, that its devices share each leaf that two or
+/// more of them had whole, with nothing unsynced, and that these roots were put; status 1 says that no two trees of the input fit each other.
+/// The output is so under any status once `out` was touched.
+pub fn thin_repair_finds_the_sharing()
+    ensures found { (from to : List ℕ) (words : NumberWords) (transaction block_size blocks : ℕ) (before after : Objects) → IsName from → IsName to → SayNumbers words transaction block_size blocks → CallEnds (codes "thin_repair" ∷ codes "--shared" ∷ codes "-i" ∷ from ∷ codes "-o" ∷ to ∷ with_numbers words) 0 before after → HoldsFoundShape transaction block_size blocks before after }
+    ensures made { (from to : List ℕ) (words : NumberWords) (transaction block_size blocks : ℕ) (before after : Objects) (status : ℕ) → IsName from → IsName to → SayNumbers words transaction block_size blocks → CallEnds (codes "thin_repair" ∷ codes "--shared" ∷ codes "-i" ∷ from ∷ codes "-o" ∷ to ∷ with_numbers words) status before after → IsWorkDone before after status → HoldsBestShape transaction block_size blocks before after }
+    ensures none { (from to : List ℕ) (words : NumberWords) (transaction block_size blocks : ℕ) (before after : Objects) → IsName from → IsName to → SayNumbers words transaction block_size blocks → CallEnds (codes "thin_repair" ∷ codes "--shared" ∷ codes "-i" ∷ from ∷ codes "-o" ∷ to ∷ with_numbers words) 1 before after → HasNoRoots blocks before after }
+{
+    searched_pool_keeps_its_sharing();
+}
+
+/// `cache_repair -i IMAGE -o IMAGE`, in the input's version of the metadata or, where `--metadata-version` says so, another: status 0 says
+/// that the output is clean and means what can be saved of the cache, in that version, with nothing unsynced, and that the line of what is
+/// kept was put; of an input without faults up to the stage Whole that is all of it. The output is so under any status once `out` was touched.
+pub fn cache_repair_makes_what_is_saved()
+    ensures made { (word : Option (List ℕ)) (version : Option ℕ) (from to : List ℕ) (before after : Objects) (status : ℕ) → IsVersionSaid word version → IsName from → IsName to → CallEnds (codes "cache_repair" ∷ (in_version word ++ (codes "-i" ∷ from ∷ codes "-o" ∷ to ∷ []))) status before after → IsWorkDone before after status → HoldsSavedCache version before after }
+    ensures line { (word : Option (List ℕ)) (version : Option ℕ) (from to : List ℕ) (before after : Objects) → IsVersionSaid word version → IsName from → IsName to → CallEnds (codes "cache_repair" ∷ (in_version word ++ (codes "-i" ∷ from ∷ codes "-o" ∷ to ∷ []))) 0 before after → PutsKept before after }
+{
+    repaired_cache_is_clean();
 }
 
 /// `thin_rmap --region FIRST..END IMAGE`, to a file or not: status 0 says that the image has no faults up to the stage Whole,

@@ -21,4 +21,4 @@ returns c = λ image lost image_is none is.
       edges = λ b role. c.edges_lead_to_reached_pairs.ensures.edges graph image b role lawful;
       devices = λ b. c.entries_lead_to_reached_pairs.ensures graph image b 2 8 3 (λ v. v) (c.formats_have_trees.ensures.thin (block_at image 0)).devices lawful ordered;
     } in
-    keeps_roots image lost known (c.sound_pools_are_lawful.ensures image image_is none) none (sizes_are image (none_of_super image none)) is
+    keeps_roots image lost known (c.sound_pools_are_lawful.ensures image image_is none) none (sizes_are image (none_of_super Thin image none)) is
