@@ -1,4 +1,3 @@
-pub mod TakenLemmas
 pub mod OrderLemmas
 pub mod CountLemmas
 pub mod TallyLemmas

@@ -4,7 +4,7 @@ use Rattle.std.proofs.lemmas.List.{append-nil, take-append-drop, take_more}
 use Rattle.std.proofs.lemmas.List.Concat.{flat_map-append}
 use Rattle.pd_thin_meaning.specs.declared.devices.DeviceRow.{DeviceRow}
 use Rattle.pd_lines.specs.Printing.{Begun, Printed, Printing, Prints}
-use Rattle.pd_lines.proofs.Printing.{begun_after, begun_first, printed_both, printed_none, prints_then}
+use Rattle.pd_lines.proofs.Printing.{begun_after, begun_first, printed_both, prints_then}
 use Rattle.pd_query.specs.Puts.{PrintsSome}
 use Rattle.pd_uses.specs.declared.data_use.DataUse.{DataUse}
 use Rattle.pd_uses.specs.Ordered.{ordered_uses}
@@ -48,9 +48,6 @@ pub record LinesSoFar (whole rest : List ℕ) (old new : Printing) : Type 0 wher
   pub text : List ℕ
   pub cut : whole ≡ text ++ rest
   pub printed : Printed text old new
-
-pub lines_none : (whole : List ℕ) (now : Printing) → LinesSoFar whole whole now now
-lines_none whole now = record { text = []; cut = refl; printed = printed_none now }
 
 pub lines_more : (part later : List ℕ) {whole rest : List ℕ} {old mid new : Printing} → LinesSoFar whole rest old mid → rest ≡ part ++ later → Printed part mid new → LinesSoFar whole later old new
 lines_more part later so_far is printed = record {

@@ -28,7 +28,12 @@ use Rattle.pd_uses.specs.UseCounts.{number_of_uses}
 use Rattle.pd_uses.specs.Uses.{row_uses, rows_told, use_by, uses_told}
 use Rattle.pd_uses.proofs.CountLemmas.{filter_mapped, number_of_both}
 use Rattle.pd_uses.proofs.ListWalkLemmas.{items_are, items_at, still_told, told_both, told_times}
-use Rattle.pd_uses.proofs.TakenLemmas.{some_told}
+
+-- the uses among what a walk tells of them
+some_told : (uses : List DataUse) → uses_told (map Some uses) ≡ uses
+unfolding uses_told
+some_told [] = refl
+some_told (one ∷ uses) = ap (λ (xs : List DataUse). one ∷ xs) (some_told uses)
 
 -- how often a data block is among mappings
 abbrev block_count : List Mapping → ℕ → ℕ

@@ -113,16 +113,6 @@ nodes_raised image j b c few there =
     occurs_there c (gather (λ c. c ∷ []) (node_kids 8 image) 63 b)
     (levels_more (node_kids 8 image) (63 - j) j 63 b c (omega (arith, few)) (among_there c (gather (λ c. c ∷ []) (node_kids 8 image) j b) there))
 
--- nothing was walked
-pub walks_none : {image : List (List ℕ)} {nodes : List ℕ} {left : List (Option DataUse)} {meets : Meets} {t : Tallies} → Walks image nodes nodes left left meets meets t t
-walks_none = record {
-  told = [];
-  parts = refl;
-  fewer = λ b. omega arith;
-  counts = λ b. omega arith;
-  tallied = λ once start before more below had. rw (append-nil more) had;
-}
-
 fewer_told : (image : List (List ℕ)) (told : List (Option DataUse)) (n k c : ℕ) → k ≤ n → IsTold image told n c → IsTold image told k c
 fewer_told image told n k c less all =
     all_from (λ (m : Mapping). n ≤ told_times told m.data_block) (λ (m : Mapping). k ≤ told_times told m.data_block) (λ m often. omega (arith, less, often)) (mappings_at image c) all

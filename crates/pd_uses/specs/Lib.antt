@@ -1,5 +1,4 @@
 pub mod Uses
-pub mod Taken
 pub mod Ordered
 pub mod UseCounts
 pub mod Tallied

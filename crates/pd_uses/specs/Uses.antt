@@ -3,13 +3,8 @@ use Rattle.std.specs.Prelude.{ℕ, List, ◌∷◌, map, filter_map, Option, Non
 use Rattle.std.specs.List.{flat_map}
 use Rattle.pd_kinds.specs.declared.thin_super.ThinSuper.{ThinSuper}
 use Rattle.pd_kinds.specs.Meaning.{Mapping}
-use Rattle.pd_value.specs.declared.thin.BlockTime.{BlockTime}
-use Rattle.pd_tree.specs.declared.cursor.Cursor.{Cursor}
-use Rattle.pd_tree.specs.Cursor.{cursor_items}
 use Rattle.pd_thin_meaning.specs.declared.devices.DeviceRow.{DeviceRow}
 use Rattle.pd_thin_meaning.specs.Given.{super_rows}
-use Rattle.pd_thin_meaning.specs.Items.{block_time_of}
-use Rattle.pd_thin_meaning.specs.Joined.{mapping_of}
 use Rattle.pd_thin_meaning.specs.Runs.{mappings_below}
 use Rattle.pd_uses.specs.declared.data_use.DataUse.{DataUse}
 
@@ -39,7 +34,3 @@ super_told image s = rows_told image (super_rows image s)
 -- the uses among what is told
 unfoldable pub uses_told : List (Option DataUse) → List DataUse
 uses_told told = filter_map (λ one. one) told
-
--- the uses by the mappings that are left of a device
-abbrev pub uses_left : List (List ℕ) → ℕ → Cursor BlockTime → List DataUse
-uses_left image id mappings = map (use_by id) (map mapping_of (cursor_items 8 block_time_of image mappings))

@@ -3,7 +3,7 @@
 //! Each node is read twice at the most. A data block of a leaf that was met twice is used twice already, so that what a
 //! third meeting tells changes no tally.
 
-ghost use Rattle.std.specs.Prelude.{◌≡◌, ℕ, ◌+◌, ◌-◌, ◌<◌, ◌≤◌, [], ◌++◌, Some, map, IfSome, OnOk};
+ghost use Rattle.std.specs.Prelude.{ℕ, ◌+◌, ◌-◌, ◌<◌, [], ◌++◌, Some, map, IfSome, OnOk};
 ghost use Rattle.pd_image.specs.Device.{IsAttached, OnlyReads};
 ghost use Rattle.pd_tree.specs.Below.{items_below, nodes_below};
 ghost use Rattle.pd_tree.specs.Stack.{child_weight, stack_items, stack_nodes, stack_number};

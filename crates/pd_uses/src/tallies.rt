@@ -1,6 +1,6 @@
 //! How many data blocks each device of a pool alone uses, tallied as the uses are gone through.
 
-ghost use Rattle.std.specs.Prelude.{◌≡◌, ◌+◌, ◌-◌, ◌^◌, ◌<◌, [], ◌∷◌, ◌++◌, None, Some, List, Option, min, length, slice_index, slice_set, IfOk, OnOk};
+ghost use Rattle.std.specs.Prelude.{◌≡◌, ◌+◌, ◌-◌, ◌^◌, ◌<◌, [], ◌∷◌, ◌++◌, None, Some, List, Option, length, IfOk, OnOk};
 ghost use Rattle.pd_count.specs.Counted.{PutsNumber};
 ghost use Rattle.pd_uses.specs.declared.data_use.DataUse.{DataUse as OneUse};
 ghost use Rattle.pd_uses.specs.Tallied.{IsTallied, lowered_at, raised_at};
