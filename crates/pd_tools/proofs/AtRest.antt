@@ -9,8 +9,10 @@ use Rattle.pd_kinds.specs.Objects.{SinkState}
 use Rattle.pd_kinds.specs.Report.{report_of}
 use Rattle.pd_kinds.specs.Stages.{faults}
 use Rattle.pd_answers.specs.Answer.{Objects, AreFresh}
-use Rattle.pd_answers.specs.Requests.{Request, check, passing_check, check_and_clear, query, restore, repair, search, generate, rehearse, writeback, shrink}
+use Rattle.pd_answers.specs.Requests.{Request, check, passing_check, check_and_clear, query, restore, repair, search, repair_cache, generate, rehearse, writeback, shrink}
+use Rattle.pd_answers.specs.CacheRepairs as caches
 use Rattle.pd_answers.specs.Repairs as repairs
+use Rattle.pd_answers.specs.Searches as searches
 use Rattle.pd_answers.specs.Shrinks as shrinks
 use Rattle.pd_answers.specs.Terms.{Terms}
 use Rattle.pd_answers.specs.Writebacks as writebacks
@@ -24,6 +26,7 @@ use Rattle.pd_laid.specs.LaidCache.{laid_cache}
 use Rattle.pd_laid.specs.LaidEra.{laid_era}
 use Rattle.pd_tools.specs.Restore.{TextsHaveVerdicts}
 use Rattle.pd_tools.specs.Task.{AreAlone, IsAtRest}
+use Rattle.pd_tools.proofs.CacheRepairs.{cache_repair_rests}
 use Rattle.pd_tools.proofs.Checks.{told}
 use Rattle.pd_tools.proofs.FewReads.{unread}
 use Rattle.pd_tools.proofs.Clears.{clearing_at_rest}
@@ -72,7 +75,8 @@ at_rest (Some (restore Cache version file path)) before notes fresh verdicts =
     restore_at_rest (IsCacheVerdict version) (is_cache_early version) (λ m room. laid_cache m version room) file path before (record before { notes = notes }) before.source before.output fresh.output.2 (verdicts Cache version) fresh.output.0
 at_rest (Some (restore Era version file path)) before notes fresh verdicts =
     restore_at_rest IsEraVerdict is_era_early laid_era file path before (record before { notes = notes }) before.source before.output fresh.output.2 (verdicts Era version) fresh.output.0
-at_rest (Some (repair from to)) before notes fresh verdicts = task_at_rest (repairs.repair from to) before notes (repair_rests from to before (record before { notes = notes }) fresh (none_written before notes fresh))
+at_rest (Some (repair shared from to)) before notes fresh verdicts =
+    task_at_rest (repairs.repair shared from to) before notes (repair_rests shared from to before (record before { notes = notes }) fresh (none_written before notes fresh))
 at_rest (Some (query asked file path)) before notes fresh verdicts = query_at_rest asked before.input.held
 at_rest (Some (generate number file)) before notes fresh verdicts = (tt, tt, tt)
 at_rest (Some (rehearse number path)) before notes fresh verdicts = rehearse_at_rest number path before notes fresh.output.2 (verdicts Thin 1) fresh.output.0
@@ -80,9 +84,11 @@ at_rest (Some (writeback metadata fast origin)) before notes fresh verdicts =
     task_at_rest (writebacks.writeback metadata fast origin) before notes (writeback_rests metadata fast origin before (record before { notes = notes }) fresh (none_written before notes fresh))
 at_rest (Some (shrink input output pool blocks)) before notes fresh verdicts =
     task_at_rest (shrinks.shrink input output pool blocks) before notes (shrink_rests input output pool blocks before (record before { notes = notes }) fresh (none_written before notes fresh))
-at_rest (Some (search from to transaction block_size blocks)) before notes fresh verdicts =
-    task_at_rest (repairs.search from to transaction block_size blocks) before notes
-    (search_rests (record { transaction = transaction; block_size = block_size; blocks = blocks }) from to before (record before { notes = notes }) fresh (none_written before notes fresh))
+at_rest (Some (repair_cache version from to)) before notes fresh verdicts =
+    task_at_rest (caches.repair_cache version from to) before notes (cache_repair_rests version from to before (record before { notes = notes }) fresh (none_written before notes fresh))
+at_rest (Some (search shared from to transaction block_size blocks)) before notes fresh verdicts =
+    task_at_rest (searches.search shared from to transaction block_size blocks) before notes
+    (search_rests shared (record { transaction = transaction; block_size = block_size; blocks = blocks }) from to before (record before { notes = notes }) fresh (none_written before notes fresh))
 
 -- and nothing was read
 pub reads_at_rest : (request : Option Request) (before : Objects) (notes : SinkState)
@@ -94,10 +100,11 @@ reads_at_rest (Some (check_and_clear flagged passing path)) before notes = unrea
 reads_at_rest (Some (restore Thin version file path)) before notes = tt
 reads_at_rest (Some (restore Cache version file path)) before notes = tt
 reads_at_rest (Some (restore Era version file path)) before notes = tt
-reads_at_rest (Some (repair from to)) before notes = tt
+reads_at_rest (Some (repair shared from to)) before notes = tt
 reads_at_rest (Some (query asked file path)) before notes = tt
 reads_at_rest (Some (generate number file)) before notes = tt
 reads_at_rest (Some (rehearse number path)) before notes = tt
 reads_at_rest (Some (writeback metadata fast origin)) before notes = tt
 reads_at_rest (Some (shrink input output pool blocks)) before notes = tt
-reads_at_rest (Some (search from to transaction block_size blocks)) before notes = tt
+reads_at_rest (Some (search shared from to transaction block_size blocks)) before notes = tt
+reads_at_rest (Some (repair_cache version from to)) before notes = tt

@@ -12,6 +12,7 @@ pub mod Generates
 pub mod Rehearses
 pub mod Laying
 pub mod Repairs
+pub mod CacheRepairs
 pub mod BestRoots
 pub mod Searches
 pub mod Writebacks

@@ -15,13 +15,14 @@ use Rattle.pd_kinds.proofs.CrashLemmas.{and_then, stays, still_tells}
 use Rattle.pd_spells.specs.Lines.{no_room_line, reported_lines}
 use Rattle.pd_answers.specs.Answer.{Answer, Objects, AreFresh}
 use Rattle.pd_answers.specs.CachedView.{blocks_each}
+use Rattle.pd_answers.specs.Makings.{LaysPool}
 use Rattle.pd_answers.specs.MovedPool.{copy_of_move, data_after, end_of_pool, free_blocks, moves_to, sources}
 use Rattle.pd_answers.specs.Outputs.{HoldsMade, IsWorkDone, LeavesMade}
-use Rattle.pd_answers.specs.Repairs.{LaysPool}
 use Rattle.pd_answers.specs.Shrinks.{IsGroundOf, ShrinkLack, LeavesShrunk, ShrinkFound, ShrinkGround, answer_to, bad_block_size, lack_of, moved_line, moves_of, no_room, pool_after, shrink, shrink_answer}
 use Rattle.pd_answers.specs.Terms.{is_possible}
 use Rattle.pd_answers.specs.Writebacks.{block_size_line}
-use Rattle.pd_restore.specs.Made.{Ending, IsDone, IsMadeOf, done, lacking}
+use Rattle.pd_restore.specs.Made.{IsMadeOf, pool_content}
+use Rattle.pd_restoring.specs.Made.{Ending, IsDone, done, lacking}
 use Rattle.pd_shrink.specs.declared.fault.ShrinkFault.{ShrinkFault}
 use Rattle.pd_shrink.specs.declared.fault.ShrinkFault.TheVariants as s
 use Rattle.pd_shrink.specs.declared.plan.Shrink.{Shrink}
@@ -271,7 +272,7 @@ module _ (from to pool : List ℕ) (blocks : ℕ) (before after : Objects) (open
     laid status is_done three four =
         subst (λ (room : ℕ). LeavesMade (LaysPool (shrink_answer found_here) (pool_after ground) room) (not (nat_eq (shrink_answer found_here).status 0)) status before.output after.output)
         (sym planned.goes_by.room)
-        (laid_leaves before.output opened.output after.output fresh.output.2 was.output.untouched (pool_after ground) ending made_here (shrink_answer found_here) zero status is_done
+        (laid_leaves before.output opened.output after.output fresh.output.2 was.output.untouched (pool_content (pool_after ground)) ending made_here (shrink_answer found_here) zero status is_done
         (λ either. elim either [ inl e ↦ three e | inr e ↦ four e ]))
 
     moved_leaves : (last : SinkState) (status : ℕ) → (IsWorkDone before (record after { out = last }) status → IsDone ending) → status ≢ 3 → status ≢ 4
@@ -305,7 +306,7 @@ module _ (from to pool : List ℕ) (blocks : ℕ) (before after : Objects) (open
         sound = one_told before.input.held (λ image is. none_at_super Thin Counts image is) (rw was.input.untouched.held at sound);
       })
       (moved_leaves lacking has after.out 7 (λ worked. absurd (not_done before after 7 (λ e. omega arith) unput worked)) (λ e. omega arith) (λ e. omega arith)
-      (λ _ _ _. laid_kept before.output opened.output after.output fresh.output.2 was.output.untouched (pool_after ground) lacking (made_here lacking has) (shrink_answer found_here) tt)
+      (λ _ _ _. laid_kept before.output opened.output after.output fresh.output.2 was.output.untouched (pool_content (pool_after ground)) lacking (made_here lacking has) (shrink_answer found_here) tt)
       (λ e. absurd (omega arith)))
   shrink_unwritten Device (inl fails) = halted Device refl (inr (inr (rw was.third.faults at fails.rose))) (unmoved_leaves fails)
   shrink_unwritten Device (inr fails) =

@@ -8,6 +8,8 @@ pub mod Opened
 pub mod Writeback
 pub mod Query
 pub mod Rehearse
+pub mod Saved
+pub mod CacheRepair
 pub mod Search
 pub mod Shrink
 pub mod Ending

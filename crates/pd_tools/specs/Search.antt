@@ -1,9 +1,9 @@
 -- What a search is given.
-use Rattle.std.specs.Prelude.{ℕ, List}
-use Rattle.pd_answers.specs.Repairs.{search}
+use Rattle.std.specs.Prelude.{ℕ, Bool, List}
+use Rattle.pd_answers.specs.Searches.{search}
 use Rattle.pd_answers.specs.Terms.{Terms}
 use Rattle.pd_tools.specs.declared.search.Given.{Given}
 
--- the terms of a search with these numbers, from one image to another
-abbrev pub terms_of_search : Given → List ℕ → List ℕ → Terms
-terms_of_search given from to = search from to given.transaction given.block_size given.blocks
+-- the terms of a search with these numbers, from one image to another, with shared leaves or without
+abbrev pub terms_of_search : Bool → Given → List ℕ → List ℕ → Terms
+terms_of_search shared given from to = search shared from to given.transaction given.block_size given.blocks

@@ -7,7 +7,8 @@ use Rattle.pd_answers.specs.CachedView.{blocks_each}
 use Rattle.pd_answers.specs.MovedPool.{copy_of_move, data_after}
 use Rattle.pd_answers.specs.Shrinks.{ShrinkGround, moves_of, pool_after}
 use Rattle.pd_answers.specs.Writebacks.{KeepsOthers}
-use Rattle.pd_restore.specs.Made.{Ending, IsMadeOf, done, failed, lacking}
+use Rattle.pd_restore.specs.Made.{IsMadeOf}
+use Rattle.pd_restoring.specs.Made.{Ending, done, failed, lacking}
 use Rattle.pd_shrink.specs.declared.plan.Shrink.{Shrink}
 use Rattle.pd_shrink.specs.Moves.{moves_in}
 use Rattle.pd_shrink.specs.Planned.{IsPlanOf}

@@ -1,6 +1,7 @@
 //! The top call of the tools: from the words of a command line to the status.
 #![tactic(auto)]
 
+mod cache_repair;
 mod check;
 mod clear;
 mod ending;

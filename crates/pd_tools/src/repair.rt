@@ -1,10 +1,14 @@
 //! A repair, from the path of an image to that of another.
 
-ghost use Rattle.std.specs.Prelude.{◌≡◌};
+ghost use Rattle.std.specs.Prelude.{◌≡◌, IfErr};
 ghost use Rattle.pd_kinds.specs.Faults.{faults_at};
 ghost use Rattle.pd_kinds.specs.Report.{report_of};
 ghost use Rattle.pd_kinds.specs.RuleSet.{has_rule};
+ghost use Rattle.pd_image.specs.Device.{IsAttached, IsWritable, KeepsPlace, OnlyReads};
+ghost use Rattle.pd_answers.specs.Repairs.{saved_of};
+ghost use Rattle.pd_repair.specs.Repaired.{CountsRepair, IsRepairedAs, NamesRules};
 ghost use Rattle.pd_tools.specs.Ending.{repair_ended};
+ghost use Rattle.pd_tools.specs.Saved.{saved_content};
 
 use crate::ending::{Ending, Outcome, no_room};
 use crate::opening::{DevicePath, Places};
@@ -12,21 +16,22 @@ use crate::stop::Stop;
 use crate::task::Task;
 use pd_image::Device;
 use pd_kinds::{Report, Rules};
-use pd_repair::{RepairFault, repair_thin};
+use pd_repair::{RepairFault, repair_shared, repair_thin};
 use std::alloc::Global;
 
-/// Writes what can be saved of the pool in the image at one path to the image at another. Where the superblock has
-/// faults, their report goes to `notes`.
+/// Writes what can be saved of the pool in the image at one path to the image at another, with the leaves that its devices
+/// share or without. Where the superblock has faults, their report goes to `notes`.
 #[derive(Clone, Copy)]
 pub struct Repair<'a> {
     pub from: &'a str,
     pub to: &'a str,
+    pub shared: bool,
 }
 
 impl Task for Repair<'_> {
     ghost use Rattle.pd_answers.specs.Repairs.{repair};
 
-    ghost terms = { λ task. repair task.from.now task.to.now };
+    ghost terms = { λ task. repair task.shared task.from.now task.to.now };
 
     fn places(&self) -> Places<'_> {
         Places {
@@ -45,7 +50,29 @@ impl Task for Repair<'_> {
         output: &mut B,
         third: &mut C,
     ) -> Result<Outcome, Stop> {
-        ended_of(repair_thin(alloc, input, output))
+        ended_of(repair_pool(alloc, self.shared, input, output))
+    }
+}
+
+/// Writes what can be saved of a pool, with the leaves that its devices share or without.
+fn repair_pool<A: Device, B: Device>(
+    alloc: Global,
+    shared: bool,
+    input: &mut A,
+    output: &mut B,
+) -> Result<(), RepairFault>
+    requires attached { IsAttached (A.state input.old) }
+    requires writable { IsWritable (B.state output.old) }
+    ensures repaired { IsRepairedAs (saved_content shared) (saved_of shared) result (A.state input.old) (B.state output.old) (B.state output.new) }
+    ensures named { IfErr result NamesRules }
+    ensures input { OnlyReads (A.state input.old) (A.state input.new) }
+    ensures place { KeepsPlace (B.state output.old) (B.state output.new) }
+    ensures causes { CountsRepair result (A.state input.old).faults (A.state input.new).faults (B.state output.old).faults (B.state output.new).faults }
+{
+    if shared {
+        repair_shared(alloc, input, output)
+    } else {
+        repair_thin(alloc, input, output)
     }
 }
 

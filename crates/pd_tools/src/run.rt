@@ -9,6 +9,7 @@ ghost use Rattle.std.specs.Option.{option_copied};
 ghost use Rattle.pd_words.specs.Words.{AreNames, IsNameIfAny, request_as, words_of};
 ghost use Rattle.pd_tools.specs.Work.{AnswersTerms};
 
+use crate::cache_repair::CacheRepair;
 use crate::check::run_check;
 use crate::clear::run_clearing_check;
 use crate::generate::run_generate;
@@ -70,6 +71,7 @@ pub fn run_tool<S: Source, K: Sink, E: Sink, A: Device, B: Device, C: Device>(
 
 /// Does a request of these words, with `notes` attached: its clause is that of the top call, whatever the other objects
 /// are.
+#[tactic(auto, using(crate::proofs::CacheRepairs::known_is))]
 fn run_request<S: Source, K: Sink, E: Sink, A: Device, B: Device, C: Device>(
     alloc: Global,
     words: &[String],
@@ -155,16 +157,19 @@ fn run_request<S: Source, K: Sink, E: Sink, A: Device, B: Device, C: Device>(
         Request::Repair {
             input: from,
             output: to,
+            shared,
         } => {
             let task = Repair {
                 from: from.word_in(words),
                 to: to.word_in(words),
+                shared,
             };
             run_task(alloc, &task, out, notes, input, output, third)
         }
         Request::Search {
             input: from,
             output: to,
+            shared,
             transaction,
             block_size,
             blocks,
@@ -172,11 +177,24 @@ fn run_request<S: Source, K: Sink, E: Sink, A: Device, B: Device, C: Device>(
             let task = Search {
                 from: from.word_in(words),
                 to: to.word_in(words),
+                shared,
                 given: Given {
                     transaction,
                     block_size,
                     blocks,
                 },
+            };
+            run_task(alloc, &task, out, notes, input, output, third)
+        }
+        Request::RepairCache {
+            input: from,
+            output: to,
+            version,
+        } => {
+            let task = CacheRepair {
+                from: from.word_in(words),
+                to: to.word_in(words),
+                version,
             };
             run_task(alloc, &task, out, notes, input, output, third)
         }

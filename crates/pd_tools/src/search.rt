@@ -1,15 +1,17 @@
 //! A repair without a superblock, from the paths of two images and the numbers that are given to the line of the roots.
 
-ghost use Rattle.std.specs.Prelude.{◌≡◌, ℕ, List, IfSome, min};
+ghost use Rattle.std.specs.Prelude.{◌≡◌, ◌≤◌, ◌^◌, ℕ, List, IfSome, min};
 ghost use Rattle.pd_kinds.specs.declared.limits.TheConstants.{MAX_META_BLOCKS};
 ghost use Rattle.pd_kinds.specs.Objects.{DeviceState, SinkState};
 ghost use Rattle.pd_image.specs.Device.{IsAttached, IsWritable, KeepsPlace, OnlyReads};
 ghost use Rattle.pd_laid.specs.FoundRoots.{AreBest, lost_graph};
+ghost use Rattle.pd_repair.specs.Repaired.{CountsRepair, HasSuper, IsRepairedFromAs};
 ghost use Rattle.pd_scan.specs.Roots.{AreInside, roots_of};
 ghost use Rattle.pd_words.specs.Words.{IsPoolSize};
 ghost use Rattle.pd_answers.specs.Answer.{AreFresh, Objects};
 ghost use Rattle.pd_answers.specs.SearchLines.{roots_line};
 ghost use Rattle.pd_tools.specs.Opened.{AreOpened, Devices, devices};
+ghost use Rattle.pd_tools.specs.Saved.{saved_by, saved_content};
 ghost use Rattle.pd_tools.specs.Search.{terms_of_search};
 ghost use Rattle.pd_tools.specs.Task.{Works};
 
@@ -19,9 +21,9 @@ use crate::repair::ended_of;
 use crate::stop::Stop;
 use crate::task::Task;
 use pd_image::Device;
-use pd_kinds::{CheckFault, MAX_META_BLOCKS};
+use pd_kinds::{CheckFault, MAX_META_BLOCKS, ThinSuper};
 use pd_lines::LineBuffer;
-use pd_repair::repair_from;
+use pd_repair::{RepairFault, repair_from, repair_shared_from};
 use pd_scan::{Roots, find_roots, found_pools_are_saved_whole, lost_super};
 use std::alloc::Global;
 
@@ -37,11 +39,12 @@ pub struct Given {
 }
 
 /// Writes the pool of the best roots that are found in the image at one path to the image at another, with the numbers
-/// that are given, and puts the line of these roots.
+/// that are given, and with the leaves that its devices share or without; and puts the line of these roots.
 #[derive(Clone, Copy)]
 pub struct Search<'a> {
     pub from: &'a str,
     pub to: &'a str,
+    pub shared: bool,
     pub given: Given,
     ghost size: { IsPoolSize given.blocks },
 }
@@ -49,7 +52,7 @@ pub struct Search<'a> {
 impl Task for Search<'_> {
     ghost use Rattle.pd_tools.specs.Search.{terms_of_search};
 
-    ghost terms = { λ task. terms_of_search task.given task.from.now task.to.now };
+    ghost terms = { λ task. terms_of_search task.shared task.given task.from.now task.to.now };
 
     fn places(&self) -> Places<'_> {
         Places {
@@ -70,7 +73,9 @@ impl Task for Search<'_> {
     ) -> Result<Outcome, Stop> {
         match find_roots(alloc, input, self.given.blocks) {
             Ok(found) => match found {
-                Some(roots) => write_found(alloc, &roots, &self.given, input, output),
+                Some(roots) => {
+                    write_found(alloc, &roots, self.shared, &self.given, input, output)
+                }
                 None => Ok(Outcome::Ended(Ending::NoRoots)),
             },
             Err(fault) => match fault {
@@ -85,6 +90,7 @@ impl Task for Search<'_> {
 fn write_found<A: Device, B: Device>(
     alloc: Global,
     roots: &Roots,
+    shared: bool,
     given: &Given,
     input: &mut A,
     output: &mut B,
@@ -99,7 +105,7 @@ fn write_found<A: Device, B: Device>(
     ensures works { (from to : List ℕ) (others : Objects) (notes : SinkState) (first : Devices) (third : DeviceState) →
         let before = record others { input = first.input; output = first.output; third = first.third } in
         let after = record others { notes = notes; input = A.state input.new; output = B.state output.new; third = third } in
-        let terms = terms_of_search given.now from to in
+        let terms = terms_of_search shared given.now from to in
         AreFresh before → AreOpened terms.uses first (devices (A.state input.old) (B.state output.old) third) → Works terms before after result }
 {
     found_pools_are_saved_whole();
@@ -111,9 +117,36 @@ fn write_found<A: Device, B: Device>(
         meta_blocks,
         given.blocks,
     );
-    match repair_from(alloc, input, output, &lost) {
+    match repair_lost(alloc, shared, input, output, &lost) {
         Ok(()) => Ok(Outcome::Line(roots_text(roots))),
         Err(fault) => ended_of(Err(fault)),
+    }
+}
+
+/// Writes what can be saved of the pool with this superblock, with the leaves that its devices share or without.
+fn repair_lost<A: Device, B: Device>(
+    alloc: Global,
+    shared: bool,
+    input: &mut A,
+    output: &mut B,
+    lost: &ThinSuper,
+) -> Result<(), RepairFault>
+    requires attached { IsAttached (A.state input.old) }
+    requires writable { IsWritable (B.state output.old) }
+    requires some { 1 ≤ lost.now.meta_map.blocks }
+    requires there { lost.now.meta_map.blocks ≤ (A.state input.old).blocks }
+    requires few { lost.now.meta_map.blocks ≤ 4161600 }
+    requires data { lost.now.data_map.blocks ≤ 2 ^ 40 }
+    ensures repaired { IsRepairedFromAs (saved_content shared) (saved_by shared) lost.now result (A.state input.old) (B.state output.old) (B.state output.new) }
+    ensures sound { HasSuper result }
+    ensures input { OnlyReads (A.state input.old) (A.state input.new) }
+    ensures place { KeepsPlace (B.state output.old) (B.state output.new) }
+    ensures causes { CountsRepair result (A.state input.old).faults (A.state input.new).faults (B.state output.old).faults (B.state output.new).faults }
+{
+    if shared {
+        repair_shared_from(alloc, input, output, lost)
+    } else {
+        repair_from(alloc, input, output, lost)
     }
 }
 

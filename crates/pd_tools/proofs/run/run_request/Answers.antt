@@ -1,4 +1,4 @@
-use Rattle.std.proofs.Common.{◌≡◌, inl, inr, ℕ, List, [], Option, Some, map, string_bytes}
+use Rattle.std.proofs.Common.{◌≡◌, inl, inr, ℕ, Bool, List, [], Option, Some, map, string_bytes}
 use Rattle.pd_kinds.specs.declared.kind.Kind.{Kind}
 use Rattle.pd_kinds.specs.declared.kind.Passing.TheVariants.{Nothing, Leaks}
 use Rattle.pd_kinds.specs.declared.kind.Stage.TheVariants.{Counts}
@@ -7,9 +7,11 @@ use Rattle.pd_answers.specs.Answer.{Objects}
 use Rattle.pd_answers.specs.Promises.{check, check_and_clear, generate, query, terms_of}
 use Rattle.pd_answers.specs.QueryLines.{Asked}
 use Rattle.pd_answers.specs.Rehearsals.{rehearse}
-use Rattle.pd_answers.specs.Repairs.{repair, search}
+use Rattle.pd_answers.specs.CacheRepairs.{repair_cache}
+use Rattle.pd_answers.specs.Repairs.{repair}
 use Rattle.pd_answers.specs.Requests.{Request, query as a_query}
 use Rattle.pd_answers.specs.Restores.{restore}
+use Rattle.pd_answers.specs.Searches.{search}
 use Rattle.pd_answers.specs.Shrinks.{shrink}
 use Rattle.pd_answers.specs.Terms.{Terms}
 use Rattle.pd_answers.specs.Writebacks.{writeback}
@@ -76,31 +78,44 @@ returns-in-Restore g c others =
     (c.run_restore.ensures (record others { out = g.K.Sink.state c.args.out.now; input = g.A.Device.state c.args.input.now; third = g.C.Device.state c.args.third.now })))
 
 -- so with the images of a repair
-repaired_as_asked : (from to given_from given_to : List ℕ) (attached : SinkState) (before after : Objects) (status : ℕ)
-    → given_from ≡ from → given_to ≡ to → AnswersTerms (repair given_from given_to) attached before after status → AnswersTerms (repair from to) attached before after status
-repaired_as_asked from to given_from given_to attached before after status same_from same_to answers = rw (same_from, same_to) at answers
+repaired_as_asked : (shared : Bool) (from to given_from given_to : List ℕ) (attached : SinkState) (before after : Objects) (status : ℕ)
+    → given_from ≡ from → given_to ≡ to → AnswersTerms (repair shared given_from given_to) attached before after status → AnswersTerms (repair shared from to) attached before after status
+repaired_as_asked shared from to given_from given_to attached before after status same_from same_to answers = rw (same_from, same_to) at answers
 
 pub returns-in-Repair : goal.returns-in-Repair
 returns-in-Repair g c others =
     let words = map string_bytes c.args.words.now in
     let w = c.in-Repair in
-    rw w.is (repaired_as_asked (word_of words w.from) (word_of words w.to) c.word_in-in-Repair.result.now c.word_in-in-Repair-2.result.now _ _ _ _
+    rw w.is (repaired_as_asked w.shared (word_of words w.from) (word_of words w.to) c.word_in-in-Repair.result.now c.word_in-in-Repair-2.result.now _ _ _ _
     c.word_in-in-Repair.ensures c.word_in-in-Repair-2.ensures
     (c.run_task.ensures (record others { source = g.S.Source.state c.args.source.now })))
 
 -- so with those of a search
-searched_as_asked : (from to given_from given_to : List ℕ) (transaction block_size blocks : ℕ) (attached : SinkState) (before after : Objects) (status : ℕ)
-    → given_from ≡ from → given_to ≡ to → AnswersTerms (search given_from given_to transaction block_size blocks) attached before after status
-    → AnswersTerms (search from to transaction block_size blocks) attached before after status
-searched_as_asked from to given_from given_to transaction block_size blocks attached before after status same_from same_to answers = rw (same_from, same_to) at answers
+searched_as_asked : (shared : Bool) (from to given_from given_to : List ℕ) (transaction block_size blocks : ℕ) (attached : SinkState) (before after : Objects) (status : ℕ)
+    → given_from ≡ from → given_to ≡ to → AnswersTerms (search shared given_from given_to transaction block_size blocks) attached before after status
+    → AnswersTerms (search shared from to transaction block_size blocks) attached before after status
+searched_as_asked shared from to given_from given_to transaction block_size blocks attached before after status same_from same_to answers = rw (same_from, same_to) at answers
 
 pub returns-in-Search : goal.returns-in-Search
 returns-in-Search g c others =
     let words = map string_bytes c.args.words.now in
     let w = c.in-Search in
-    rw w.is (searched_as_asked (word_of words w.from) (word_of words w.to) c.word_in-in-Search.result.now c.word_in-in-Search-2.result.now w.transaction w.block_size w.blocks _ _ _ _
+    rw w.is (searched_as_asked w.shared (word_of words w.from) (word_of words w.to) c.word_in-in-Search.result.now c.word_in-in-Search-2.result.now w.transaction w.block_size w.blocks _ _ _ _
     c.word_in-in-Search.ensures c.word_in-in-Search-2.ensures
     (c.run_task-in-Search.ensures (record others { source = g.S.Source.state c.args.source.now })))
+
+-- so with those of a cache's repair
+kept_as_asked : (version : Option ℕ) (from to given_from given_to : List ℕ) (attached : SinkState) (before after : Objects) (status : ℕ)
+    → given_from ≡ from → given_to ≡ to → AnswersTerms (repair_cache version given_from given_to) attached before after status → AnswersTerms (repair_cache version from to) attached before after status
+kept_as_asked version from to given_from given_to attached before after status same_from same_to answers = rw (same_from, same_to) at answers
+
+pub returns-in-RepairCache : goal.returns-in-RepairCache
+returns-in-RepairCache g c others =
+    let words = map string_bytes c.args.words.now in
+    let w = c.in-RepairCache in
+    rw w.is (kept_as_asked w.version (word_of words w.from) (word_of words w.to) c.word_in-in-RepairCache.result.now c.word_in-in-RepairCache-2.result.now _ _ _ _
+    c.word_in-in-RepairCache.ensures c.word_in-in-RepairCache-2.ensures
+    (c.run_task-in-RepairCache.ensures (record others { source = g.S.Source.state c.args.source.now })))
 
 -- the generator's file of these words is the one that is asked
 generated_as_asked : (number : ℕ) (file given : Option (List ℕ)) (attached : SinkState) (before after : Objects) (status : ℕ)

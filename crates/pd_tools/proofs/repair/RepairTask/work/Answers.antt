@@ -5,7 +5,7 @@ use Rattle.pd_tools.proofs.repair.RepairTask.work.Goals as goal
 pub returns-clause-works : goal.returns-clause-works
 returns-clause-works g c others notes first fresh was =
     rw c.ended_of.ensures
-    (repair_works c.args.self.now.from.now c.args.self.now.to.now (record others { input = first.input; output = first.output; third = first.third })
-    (record others { notes = notes; input = g.A.Device.state c.repair_thin.new.input; output = g.B.Device.state c.repair_thin.new.output; third = g.C.Device.state c.args.third.now })
-    (devices (g.A.Device.state c.args.input.now) (g.B.Device.state c.args.output.now) (g.C.Device.state c.args.third.now)) fresh was (g.met.B.Device.measured c.args.output.now) c.repair_thin.ensures.place
-    c.repair_thin.result c.repair_thin.ensures.repaired c.repair_thin.ensures.named c.repair_thin.ensures.causes)
+    (repair_works c.args.self.now.shared c.args.self.now.from.now c.args.self.now.to.now (record others { input = first.input; output = first.output; third = first.third })
+    (record others { notes = notes; input = g.A.Device.state c.repair_pool.new.input; output = g.B.Device.state c.repair_pool.new.output; third = g.C.Device.state c.args.third.now })
+    (devices (g.A.Device.state c.args.input.now) (g.B.Device.state c.args.output.now) (g.C.Device.state c.args.third.now)) fresh was (g.met.B.Device.measured c.args.output.now) c.repair_pool.ensures.place
+    c.repair_pool.result c.repair_pool.ensures.repaired c.repair_pool.ensures.named c.repair_pool.ensures.causes)
