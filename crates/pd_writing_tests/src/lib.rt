@@ -15,6 +15,8 @@ mod search_tests;
 #[cfg(test)]
 mod shared_pool;
 #[cfg(test)]
+mod shared_repair_tests;
+#[cfg(test)]
 mod shared_restore_tests;
 #[cfg(test)]
 mod shrink_tests;
