@@ -61,7 +61,7 @@ const DUMP: &[&str] = &["cache_dump", "image"];
 
 /// How a block is changed.
 #[derive(Clone, Copy)]
-enum Change {
+pub(crate) enum Change {
     /// The first eight bytes of an array's words.
     First(u64),
     /// Their eighth eight bytes.
@@ -118,7 +118,7 @@ fn changed(block: &Block, change: Change) -> Block {
 }
 
 /// `TWO_MAPPED` in this version, with these blocks changed.
-fn changed_cache(
+pub(crate) fn changed_cache(
     alloc: Global,
     version: &[&str],
     changes: &[(usize, Change)],
@@ -174,7 +174,7 @@ const ROWS: &[Row] = &[
 const CLEAN: &str =
     "cache 1\ncache 00000000-0000-0000-0000-000000000000 128 510 1 736d7100000000000000000000000000 2 0 0 4\nmap 0 7 0 5\nmap 509 8 0 6\nend\n";
 
-const ONE_MAPPED: &str =
+pub(crate) const ONE_MAPPED: &str =
     "cache 1\ncache 00000000-0000-0000-0000-000000000000 128 510 1 736d7100000000000000000000000000 2 0 0 4\nmap 0 7 0 5\nend\n";
 
 const ONE_HINT: &str =

@@ -248,8 +248,8 @@ fn a_thousand_writesets_over_one_array(rt: HostRuntime) -> Result<(), Fail> {
     expect_said(&ran, 0, "clean\n", "")?;
     let text =
         "era 1\nera 00000000-0000-0000-0000-000000000000 128 100 2000\nrun 0 3 0\nrun 3 1 1000\nrun 4 96 0\nend\n";
-    // A dump reads eleven blocks more: that array once, and not for each writeset.
-    let ran = run(rt.alloc(), DUMP, &image, Trouble::Input.at(98))?;
+    // A dump reads that array once, and not for each writeset: it makes fewer than two hundred calls.
+    let ran = run(rt.alloc(), DUMP, &image, Trouble::Input.at(200))?;
     expect_said(&ran, 0, text, "")?;
     Ok(())
 }
