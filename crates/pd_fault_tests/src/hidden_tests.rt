@@ -148,8 +148,20 @@ const WRITING: &[Row] = &[
     (CACHE, CACHE_TEXT, CACHE, ""),
     (ERA, TARGET_TEXT, ERA, ""),
     (THIN, ONE, &["thin_repair", "-i", "a", "-o", "x"], ""),
+    (THIN, SHARED_LEAF, REPAIR_SHARED, ""),
     (THIN, ONE, SEARCH, "roots 2 3 mappings 1 time 0\n"),
+    (
+        CACHE,
+        CACHE_TEXT,
+        REPAIR_CACHE,
+        "keeps 2 of 510 blocks, 1 dirty\n",
+    ),
 ];
+
+/// The words of a repair that keeps what is shared, and of one of a cache.
+const REPAIR_SHARED: &[&str] = &["thin_repair", "--shared", "-i", "a", "-o", "x"];
+
+const REPAIR_CACHE: &[&str] = &["cache_repair", "-i", "a", "-o", "x"];
 
 /// The words of a search for the roots of the pool of one mapping.
 const SEARCH: &[&str] = &[

@@ -100,6 +100,17 @@ const SEARCH: &str =
 const SEARCH_NONE: &str =
     "thin_repair -i x -o y --transaction-id 7 --data-block-size 128 --nr-data-blocks 0";
 
+/// The same search and a repair, which keep what is shared.
+const SEARCH_SHARED: &str =
+    "thin_repair --shared -i x -o y --transaction-id 7 --data-block-size 128 --nr-data-blocks 1";
+
+const REPAIR_SHARED: &str = "thin_repair --shared -i x -o y";
+
+/// A repair of a cache, and one in the first version.
+const REPAIR_CACHE: &str = "cache_repair -i x -o y";
+
+const REPAIR_CACHE_1: &str = "cache_repair --metadata-version 1 -i x -o y";
+
 /// A restore of the second version of a cache.
 const CACHE_2: &str = "cache_restore --metadata-version 2 -i t -o x";
 
@@ -158,6 +169,15 @@ pub(crate) const WRITINGS: &[Asked] = &[
     (SEARCH, "", NoPool, Target, 0),
     (SEARCH_NONE, "", Pool, Target, 1),
     (SEARCH, "", Pool, Nothing, 4),
+    (REPAIR_SHARED, "", Twice, Target, 0),
+    (REPAIR_SHARED, "", DamagedPool, Pool, 0),
+    (REPAIR_SHARED, "", NoPool, Target, 1),
+    (REPAIR_SHARED, "", Pool, Nothing, 4),
+    (SEARCH_SHARED, "", NoPool, Target, 0),
+    (REPAIR_CACHE, "", Cache, Target, 0),
+    (REPAIR_CACHE_1, "", Cache, Ones, 0),
+    (REPAIR_CACHE, "", Pool, Target, 1),
+    (REPAIR_CACHE, "", Cache, Nothing, 4),
 ];
 
 /// A writeback.
