@@ -869,6 +869,103 @@ zeros small.img 2
 try 4 thin_repair -i leak.img -o small.img
 notes_have 'pdata_tools: no room: need '
 
+# Two devices whose mappings are one leaf, which is written once where it stays shared
+
+cat >shared.txt <<'END'
+thin 2
+pool 00000000-0000-0000-0000-000000000000 0 0 128 2
+leaf 0 2
+map 0 0 2 0
+device 1 2 0 0 0
+use 0
+device 2 2 0 0 0
+use 0
+end
+END
+zeros snapped.img 16
+try 0 thin_restore -i shared.txt -o snapped.img
+zeros ten.img 10
+try 4 thin_repair -i snapped.img -o ten.img
+notes_have 'pdata_tools: no room: need 11, blocks 10'
+for words in '' '--transaction-id 0 --data-block-size 128 --nr-data-blocks 2'; do
+    zeros ten.img 10
+    # shellcheck disable=SC2086 # several words
+    try 0 thin_repair --shared -i snapped.img -o ten.img $words
+    case $words in
+    '') out ;;
+    *) grep -q '^roots .* mappings 4 time 0$' out || bad 'other roots' ;;
+    esac
+    notes
+    try 0 thin_check ten.img
+    try 0 thin_dump --shared ten.img
+    same out shared.txt
+done
+zeros ten.img 10
+try 0 "$lvm/thin_repair" -i snapped.img -o ten.img
+try 0 thin_dump --shared ten.img
+same out shared.txt
+zeros nine.img 9
+try 1 "$lvm/thin_repair" -i snapped.img -o nine.img
+notes 'pdata_tools: no room: need 10, blocks 9' \
+    "thin_repair: for what is kept a volume has to be larger: repair by hand, after lvcreate -L 1M; see pdata_tools-lvm(8)"
+
+# Caches: a sound one stays as it is, in either version; what may be dirty stays dirty
+
+entries=$(grep -c '^map ' cache.txt)
+blocks=$(sed -n '2s/^cache [^ ]* [0-9]* \([0-9]*\) .*$/\1/p' cache.txt)
+dirty=$(grep -c '^map [0-9]* [0-9]* 1 ' cache.txt)
+for version in '' 1 2; do
+    zeros new.img 512
+    try 0 cache_repair ${version:+--metadata-version $version} -i cache.img -o new.img
+    out "keeps $entries of $blocks blocks, $dirty dirty"
+    notes
+    try 0 cache_check new.img
+    out clean
+    try 0 cache_dump new.img
+    same out cache.txt
+    zeros again.img 512
+    try 0 cache_restore --metadata-version "${version:-2}" -i cache.txt -o again.img
+    [ -z "$version" ] || same new.img again.img
+done
+{
+    printf '%s\n' 'cache 1' 'cache 00000000-0000-0000-0000-000000000000 128 600 1 736d7100000000000000000000000000 2 0 0 4'
+    awk 'BEGIN { for (i = 0; i < 600; i++) print "map", i, 2 * i, i % 2, i + 1 }'
+    echo end
+} >halves.txt
+for version in 1 2; do
+    zeros halves.img 16
+    try 0 cache_restore --metadata-version $version -i halves.txt -o halves.img
+    # the second block of the mapping array stands behind the first one
+    cp halves.img harmed.img
+    poke harmed.img 8292 '\377\377'
+    try 1 cache_check harmed.img
+    out 'fault meta 2 checksum' 'faults 1'
+    zeros new.img 16
+    try 0 cache_repair -i harmed.img -o new.img
+    out 'keeps 509 of 600 blocks, 254 dirty'
+    try 0 cache_check new.img
+    try 0 cache_dump new.img
+    # the entries of cache blocks 509 to 599 are gone
+    sed '512,602d' halves.txt >wanted
+    same out wanted
+    try 4 cache_repair -i halves.img -o small.img
+    notes_have 'pdata_tools: no room: need '
+done
+poke harmed.img 200 '\377\377'
+cp new.img before.img
+try 1 cache_repair -i harmed.img -o new.img
+notes 'fault meta 0 checksum' 'faults 1'
+same new.img before.img
+try 1 "$lvm/cache_repair" -i harmed.img -o new.img
+notes 'fault meta 0 checksum' 'faults 1' \
+    "cache_repair: the superblock of harmed.img has faults, so nothing says what the cache held; see pdata_tools-lvm(8)"
+zeros new.img 512
+try 0 "$lvm/cache_repair" -i cache.img -o new.img
+out "keeps $entries of $blocks blocks, $dirty dirty"
+try 0 cache_dump new.img
+same out cache.txt
+try 2 cache_repair --metadata-version 3 -i cache.img -o new.img
+
 # Searches, in which block 0 isn't looked at: the kernel left older trees with more mappings, in which device 2 wasn't deleted
 # yet, and device 7 still had two; the last state is found, with all its devices
 
@@ -897,7 +994,7 @@ for sectors in 0 8 100 2097280; do
     notes_have "thin_repair: no kernel has data blocks of $sectors sectors: the number is 128 to 2097152, and a multiple of 128"
 done
 try 2 thin_repair -i lost.img -o fresh.img --transaction-id 5 --data-block-size 128
-notes_have 'usage: thin_repair -i DEVICE -o DEVICE'
+notes_have 'usage: thin_repair [--shared] -i DEVICE -o DEVICE'
 same fresh.img before.img
 
 # Writebacks: a cache of two blocks, one of them dirty
@@ -1123,8 +1220,10 @@ if command -v mkfifo >/dev/null; then
             notes "$tool: $is"
         done
         try 5 thin_rehearse --number 1 -o $name
-        try 5 thin_repair -i $name -o new.img
-        try 5 thin_repair -i thin-pool.img -o $name
+        for tool in thin_repair cache_repair; do
+            try 5 $tool -i $name -o new.img
+            try 5 $tool -i thin-pool.img -o $name
+        done
         for missing in metadata fast origin; do
             metadata=dirty.img fast=fast.img origin=origin.img
             eval "$missing=$name"
@@ -1184,7 +1283,7 @@ fi
 # The commands for LVM, which end with 0 or 1 alone
 
 page='see pdata_tools-lvm(8)'
-for tool in thin_check cache_check thin_repair thin_dump; do
+for tool in thin_check cache_check thin_repair cache_repair thin_dump; do
     try 0 "$lvm/$tool" -V
     out "0.9.0 pdata_tools $release"
     try 1 "$lvm/$tool" --no-such-word
@@ -1253,7 +1352,7 @@ try 1 "$lvm/thin_dump" damaged.img
 notes 'fault meta 183 checksum' 'faults 1' "thin_dump: damaged.img isn't dumped; $page"
 # a program that isn't there, and one that is no program
 for fake in missing "$here/VERSION"; do
-    for tool in thin_check cache_check thin_repair thin_dump; do
+    for tool in thin_check cache_check thin_repair cache_repair thin_dump; do
         sed "s|^program=.*|program=$fake|" "$lvm/$tool" >"$tool.fake"
         try 1 sh "$tool.fake" -i leak.img -o fresh.img
         try 1 sh "$tool.fake" leak.img
@@ -1334,7 +1433,7 @@ if mknod held b 250 250 2>/dev/null && [ -b held ]; then
         looking "$prefix/sbin/$tool"
     done
     mv looking/* sbin-looking
-    for tool in thin_check cache_check thin_repair thin_dump; do
+    for tool in thin_check cache_check thin_repair cache_repair thin_dump; do
         looking "$lvm/$tool"
     done
     # it isn't in use: the program can't open it
@@ -1739,7 +1838,7 @@ for kind in first upgrade; do
     if [ $kind = upgrade ]; then
         mkdir older
         cp -R copy/* older
-        for text in commands/tool completion/pdata_tools lvm/check lvm/thin_repair lvm/thin_dump lvm/initramfs-hook man/*.8; do
+        for text in commands/tool completion/pdata_tools lvm/check lvm/repair lvm/thin_dump lvm/initramfs-hook man/*.8; do
             echo '# of an older version' >>"older/$text"
         done
         try 0 older/install
