@@ -18,5 +18,6 @@ pub mod CacheRepairs
 pub mod Rehearsals
 pub mod Writebacks
 pub mod MovedPool
+pub mod MovedShape
 pub mod Shrinks
 pub mod Promises

@@ -140,4 +140,4 @@ terms_of (Some (request.repair_cache version from to)) = repair_cache version fr
 terms_of (Some (request.generate number file)) = generate number file
 terms_of (Some (request.rehearse number path)) = rehearse number path
 terms_of (Some (request.writeback metadata fast origin)) = writeback metadata fast origin
-terms_of (Some (request.shrink input output pool blocks)) = shrink input output pool blocks
+terms_of (Some (request.shrink shared input output pool blocks)) = shrink shared input output pool blocks

@@ -31,5 +31,6 @@ pub data Request : Type 0 where
   rehearse : ℕ → List ℕ → Request
   -- what is dirty in a cache, by its metadata, from its fast device to its origin
   writeback : List ℕ → List ℕ → List ℕ → Request
-  -- a pool with at most so many data blocks, from its metadata to other ones, on its data device
-  shrink : List ℕ → List ℕ → List ℕ → ℕ → Request
+  -- a pool with at most so many data blocks, from its metadata to other ones, on its data device, with the leaves that its devices
+  -- share or without
+  shrink : Bool → List ℕ → List ℕ → List ℕ → ℕ → Request

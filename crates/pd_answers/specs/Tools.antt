@@ -151,5 +151,5 @@ tools =
     ∷ record { name = codes "thin_generate"; tool = generate_tool; words = number_word ∷ file_word ∷ [] }
     ∷ record { name = codes "thin_rehearse"; tool = rehearse_tool; words = number_word ∷ output_word ∷ [] }
     ∷ record { name = codes "cache_writeback"; tool = writeback_tool; words = metadata_word ∷ fast_word ∷ origin_word ∷ [] }
-    ∷ record { name = codes "thin_shrink"; tool = shrink_tool; words = input_word ∷ output_word ∷ data_word ∷ blocks_word ∷ [] }
+    ∷ record { name = codes "thin_shrink"; tool = shrink_tool; words = shared_word ∷ input_word ∷ output_word ∷ data_word ∷ blocks_word ∷ [] }
     ∷ []

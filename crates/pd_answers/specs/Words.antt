@@ -308,11 +308,12 @@ request_of writeback_tool items = do
   origin ← told origin_word items
   Some (writeback metadata fast origin)
 request_of shrink_tool items = do
+  shared ← told shared_word items
   input ← told input_word items
   output ← told output_word items
   pool ← told data_word items
   blocks ← told blocks_word items
-  Some (shrink input output pool blocks)
+  Some (shrink shared input output pool blocks)
 
 -- whether an item is given for one of these words
 abbrev pub is_known : List Word → Item → Bool
