@@ -28,3 +28,4 @@ pub mod Sources
 pub mod Reading
 pub mod LawfulPool
 pub mod FreeBlocks
+pub mod MovedShapes

@@ -5,6 +5,7 @@
 mod alike;
 mod alike_pools;
 mod moved;
+mod moved_shapes;
 mod places;
 mod settled;
 mod views;
@@ -15,6 +16,7 @@ pub use moved::{
     free_blocks_are_read_by_none, moved_pool_is_lawful, moved_pool_reads_the_same,
     moving_keeps_what_is_read,
 };
+pub use moved_shapes::{moved_shapes_are_lawful, moved_shapes_mean_moved_pools};
 pub use places::dirty_places_are_named;
 pub use settled::{
     settled_caches_have_the_same_faults, settled_caches_mean_the_same, settled_caches_show_the_same,
