@@ -45,8 +45,8 @@ request_as words (Since era image out) = requests.query (ask.since era) (words_o
 request_as words (Generate number out) = requests.generate number (words_of words out)
 request_as words (Rehearse number image) = requests.rehearse number (word_of words image)
 request_as words (Writeback meta fast origin) = requests.writeback (word_of words meta) (word_of words fast) (word_of words origin)
-request_as words (Shrink input output pool blocks) =
-    requests.shrink (word_of words input) (word_of words output) (word_of words pool) blocks
+request_as words (Shrink input output shared pool blocks) =
+    requests.shrink shared (word_of words input) (word_of words output) (word_of words pool) blocks
 
 -- a request that is no query
 abbrev pub IsNoQuery : requests.Request → Type 0
@@ -107,4 +107,4 @@ AreNames number (Since era image out) = IsName number image × IsNameIfAny numbe
 AreNames number (Generate generated out) = IsNameIfAny number out × IsGenerated generated
 AreNames number (Rehearse generated image) = IsName number image × IsGenerated generated
 AreNames number (Writeback meta fast origin) = IsName number meta × IsName number fast × IsName number origin
-AreNames number (Shrink input output pool blocks) = IsName number input × IsName number output × IsName number pool
+AreNames number (Shrink input output shared pool blocks) = IsName number input × IsName number output × IsName number pool

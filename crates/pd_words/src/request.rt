@@ -116,10 +116,11 @@ pub enum Request {
         origin: Name,
     },
     /// The pool of the metadata `input`, on the data device `pool`, with this many data blocks or fewer; its new metadata
-    /// are written to `output`.
+    /// are written to `output`, with the leaves that its devices share or without.
     Shrink {
         input: Name,
         output: Name,
+        shared: bool,
         pool: Name,
         blocks: u64,
     },

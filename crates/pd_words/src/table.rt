@@ -300,7 +300,7 @@ pub static TOOLS: [ToolWords; 18] = [
     ToolWords {
         name: "thin_shrink",
         tool: Tool::Shrink,
-        words: &[INPUT, OUTPUT, DATA, BLOCKS],
+        words: &[SHARED, INPUT, OUTPUT, DATA, BLOCKS],
     },
 ];
 

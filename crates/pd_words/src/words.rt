@@ -366,6 +366,7 @@ fn read_shrink(words: &[String]) -> Option<Request>
     ensures asked { read_as (map string_bytes words.now) result ≡ words_spec.request_of tools_spec.shrink_tool (items_in (map string_bytes words.now)) }
     ensures names { IfSome result (AreNames (length words.now)) }
 {
+    let shared = flag(words, SHARED)?;
     let input = required(words, INPUT)?;
     let output = required(words, OUTPUT)?;
     let pool = required(words, DATA)?;
@@ -373,6 +374,7 @@ fn read_shrink(words: &[String]) -> Option<Request>
     Some(Request::Shrink {
         input,
         output,
+        shared,
         pool,
         blocks,
     })
