@@ -180,10 +180,11 @@ pub cache_writeback_asked : (metadata fast origin : List ℕ) → IsName metadat
 unfolding is_flag items_of given version_of tool_in request_of asked
 cache_writeback_asked metadata fast origin is_metadata is_fast is_origin = rw (is_metadata, is_fast, is_origin) refl
 
-pub thin_shrink_asked : (from to pool word : List ℕ) (blocks : ℕ) → IsName from → IsName to → IsName pool → IsName word → number_below (2 ^ 64) word ≡ Some blocks
-    → asked (codes "thin_shrink" ∷ codes "-i" ∷ from ∷ codes "-o" ∷ to ∷ codes "--data" ∷ pool ∷ codes "--nr-blocks" ∷ word ∷ []) ≡ Some (shrink from to pool blocks)
+pub thin_shrink_asked : (shared : Bool) (from to pool word : List ℕ) (blocks : ℕ) → IsName from → IsName to → IsName pool → IsName word → number_below (2 ^ 64) word ≡ Some blocks
+    → asked (codes "thin_shrink" ∷ (with_sharing shared ++ (codes "-i" ∷ from ∷ codes "-o" ∷ to ∷ codes "--data" ∷ pool ∷ codes "--nr-blocks" ∷ word ∷ []))) ≡ Some (shrink shared from to pool blocks)
 unfolding is_flag items_of given version_of tool_in request_of asked
-thin_shrink_asked from to pool word blocks is_from is_to is_pool is_word is = rw (is_from, is_to, is_pool, is_word, is) refl
+thin_shrink_asked false from to pool word blocks is_from is_to is_pool is_word is = rw (is_from, is_to, is_pool, is_word, is) refl
+thin_shrink_asked true from to pool word blocks is_from is_to is_pool is_word is = rw (is_from, is_to, is_pool, is_word, is) refl
 
 -- a word names version 1 or 2, and without one it is 1
 pub known_version : (word : Option (List ℕ)) (version : ℕ) → version_of word ≡ Some version → (version ≡ 1) ⊎ (version ≡ 2)

@@ -1,22 +1,26 @@
 -- Trusted base.
 -- What a shrink leaves, where the devices tell what they hold.
-use Rattle.std.specs.Prelude.{◌≡◌, ◌⊎◌, ℕ, ◌*◌, min, List, map, take, Some, IfSome}
+use Rattle.std.specs.Prelude.{◌≡◌, ◌⊎◌, ℕ, ◌*◌, min, Bool, List, map, take, Some, IfSome}
 use Rattle.pd_kinds.specs.declared.kind.Kind.TheVariants.{Thin}
 use Rattle.pd_kinds.specs.Crash.{HoldsSynced, IsOldNoneOrMade, IsSynced, IsUntouched, LeavesOnly, may_leave, moment}
 use Rattle.pd_kinds.specs.Image.{IsImage}
 use Rattle.pd_kinds.specs.Meaning.{Mapping, ThinDevice, ThinPool, thin_meaning}
 use Rattle.pd_kinds.specs.Stages.{IsClean}
+use Rattle.pd_laid.specs.Shape.{ThinShape}
+use Rattle.pd_shapes.specs.ImageShape.{image_shape}
 use Rattle.pd_answers.specs.Answer.{Objects}
 use Rattle.pd_answers.specs.CachedView.{blocks_each}
-use Rattle.pd_answers.specs.MovedPool.{ReadTheSame}
+use Rattle.pd_answers.specs.MovedPool.{Move, ReadTheSame, end_of_pool, free_blocks, moved_pool, moves_to, sources}
+use Rattle.pd_answers.specs.MovedShape.{moved_shape}
 use Rattle.pd_answers.specs.Promises.{terms_of}
 use Rattle.pd_answers.specs.Requests.{shrink}
 use Rattle.pd_answers.specs.Terms.{IsAnswered}
+use Rattle.pd_exact.specs.Saved.{KeepsShape}
 
--- a shrink was asked, by the paths of the metadata, the output and the data device and by the number of data blocks that are to be left,
--- and was answered with this status
-abbrev pub IsShrinkAnswered : List ℕ → List ℕ → List ℕ → ℕ → Objects → Objects → ℕ → Type 0
-IsShrinkAnswered metadata output pool blocks = IsAnswered (terms_of (Some (shrink metadata output pool blocks)))
+-- a shrink was asked, with the leaves that devices share or without, by the paths of the metadata, the output and the data device and by
+-- the number of data blocks that are to be left, and was answered with this status
+abbrev pub IsShrinkAnswered : Bool → List ℕ → List ℕ → List ℕ → ℕ → Objects → Objects → ℕ → Type 0
+IsShrinkAnswered is_shared metadata output pool blocks = IsAnswered (terms_of (Some (shrink is_shared metadata output pool blocks)))
 
 -- a pool without what a shrink changes: how many data blocks it has, and which of them each mapping leads to
 abbrev pub without_place : Mapping → Mapping
@@ -41,6 +45,36 @@ pub record IsShrunk (blocks : ℕ) (image held smaller left : List (List ℕ)) :
   pub same : without_places (thin_meaning smaller) ≡ without_places (thin_meaning image)
   pub reads : ReadTheSame (thin_meaning image) held (thin_meaning smaller) left
   pub cut : ReadTheSame (thin_meaning image) held (thin_meaning smaller) (front_of_data (thin_meaning smaller) left)
+
+-- what is moved where a pool is to have at most so many data blocks, by its metadata
+abbrev pub moves_in : ℕ → List (List ℕ) → List Move
+moves_in blocks image =
+    let end = end_of_pool (thin_meaning image) blocks in
+    moves_to (sources (thin_meaning image) end) (free_blocks image end)
+
+-- the pool afterwards, and its shape: the same devices share the same leaves, whose mappings name the blocks that were moved
+abbrev pub pool_left : ℕ → List (List ℕ) → ThinPool
+pool_left blocks image = moved_pool (thin_meaning image) (end_of_pool (thin_meaning image) blocks) (moves_in blocks image)
+
+abbrev pub shape_left : ℕ → List (List ℕ) → ThinShape
+shape_left blocks image = moved_shape (image_shape image) (end_of_pool (thin_meaning image) blocks) (moves_in blocks image)
+
+-- the smaller pool keeps the sharing: it is clean and means the moved pool, and its devices share the leaves that they shared before,
+-- each of which is told once
+abbrev pub KeepsSharing : ℕ → List (List ℕ) → List (List ℕ) → Type 0
+KeepsSharing blocks image smaller = KeepsShape smaller (pool_left blocks image) (shape_left blocks image)
+
+-- the output holds such a pool, and nothing of it is unsynced
+abbrev pub HoldsSharing : ℕ → Objects → Objects → Type 0
+HoldsSharing blocks before after =
+    IfSome before.input.held (λ image. IsImage image → IfSome before.output.held (λ base.
+    IfSome after.output.held (λ smaller. KeepsSharing blocks image smaller × HoldsSynced smaller after.output)))
+
+-- a crash at any moment leaves of it, by no chance, the old image, no valid superblock, or such a pool
+abbrev pub LeavesSharing : ℕ → Objects → Objects → Type 0
+LeavesSharing blocks before after =
+    IfSome before.input.held (λ image. IsImage image → IfSome before.output.held (λ base.
+    LeavesOnly (IsOldNoneOrMade base (KeepsSharing blocks image)) before.output after.output))
 
 -- the metadata and the data device told what they hold
 abbrev pub BothTold : Objects → (List (List ℕ) → List (List ℕ) → Type 0) → Type 0

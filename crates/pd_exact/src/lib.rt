@@ -46,7 +46,10 @@ pub use shared_repairs::{
     repaired_sound_pool_keeps_its_sharing, saved_shapes_are_lawful,
     searched_pool_keeps_its_sharing, shared_repair_sees_sharing,
 };
-pub use shrinks::{shrunk_pool_is_clean_and_reads_the_same, stopped_shrink_keeps_what_is_read};
+pub use shrinks::{
+    shrunk_pool_is_clean_and_reads_the_same, shrunk_pool_keeps_its_sharing,
+    stopped_shrink_keeps_what_is_read,
+};
 pub use targets::{
     crashed_restore_leaves_no_other_target, restored_target_dump_means_the_same,
     restored_target_is_clean, sound_targets_are_lawful,
@@ -61,7 +64,7 @@ pub use words::{
     thin_ls_puts_the_devices, thin_rehearse_makes_its_pool, thin_repair_finds_the_roots,
     thin_repair_finds_the_sharing, thin_repair_keeps_the_sharing, thin_repair_makes_what_is_saved,
     thin_repair_sees_sharing, thin_restore_is_asked, thin_restore_makes_the_pool,
-    thin_rmap_puts_the_mappings, thin_shared_dump_puts_the_shape,
+    thin_rmap_puts_the_mappings, thin_shared_dump_puts_the_shape, thin_shrink_keeps_the_sharing,
     thin_shrink_makes_the_pool_smaller,
 };
 pub use writebacks::{stopped_writeback_keeps_the_view, written_back_cache_is_clean};

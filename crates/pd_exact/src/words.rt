@@ -21,7 +21,7 @@ ghost use Rattle.pd_exact.specs.Exact.{HoldsCacheOfText, HoldsCleared, HoldsPool
 ghost use Rattle.pd_exact.specs.Saved.{HoldsSavedCache, HoldsSavedShape, PutsKept};
 ghost use Rattle.pd_exact.specs.Sharing.{HasTimesOfSharing, IsDamagedPool, IsKeptPool, SeesSharingWhere};
 ghost use Rattle.pd_exact.specs.Search.{HasNoRoots, HoldsBestPool, HoldsBestShape, HoldsFoundPool, HoldsFoundShape, NumberWords, SayNumbers, with_numbers};
-ghost use Rattle.pd_exact.specs.Shrink.{HoldsShrunk};
+ghost use Rattle.pd_exact.specs.Shrink.{HoldsSharing, HoldsShrunk};
 ghost use Rattle.pd_exact.specs.Words.{CallEnds, HoldsGenerated, InputLosesNothing, IsName, IsVersionSaid, PutsGenerated, PutsOfInput, PutsShapeOfInput, PutsTextOfInput, TellsWhetherClean, TellsWhetherPassed, check_name, in_version, letting_pass, to_file};
 ghost use Rattle.pd_exact.specs.Writeback.{HoldsWrittenBack};
 
@@ -37,7 +37,7 @@ use crate::shared::laid_shapes_are_clean;
 use crate::shared_repairs::{
     repaired_pool_keeps_its_sharing, searched_pool_keeps_its_sharing, shared_repair_sees_sharing,
 };
-use crate::shrinks::shrunk_pool_is_clean_and_reads_the_same;
+use crate::shrinks::{shrunk_pool_is_clean_and_reads_the_same, shrunk_pool_keeps_its_sharing};
 use crate::targets::{restored_target_is_clean, sound_targets_are_lawful};
 use crate::writebacks::written_back_cache_is_clean;
 use pd_gen::generated_text_spells_a_pool;
@@ -299,6 +299,16 @@ pub fn thin_shrink_makes_the_pool_smaller()
     ensures { (from to pool word : List ℕ) (blocks : ℕ) (before after : Objects) (status : ℕ) → IsName from → IsName to → IsName pool → IsName word → number_below (2 ^ 64) word ≡ Some blocks → CallEnds (codes "thin_shrink" ∷ codes "-i" ∷ from ∷ codes "-o" ∷ to ∷ codes "--data" ∷ pool ∷ codes "--nr-blocks" ∷ word ∷ []) status before after → IsWorkDone before after status → HoldsShrunk blocks before after }
 {
     shrunk_pool_is_clean_and_reads_the_same();
+}
+
+/// `thin_shrink --shared -i IMAGE -o IMAGE --data IMAGE --nr-blocks NUMBER`: status 0 says the same, and that the smaller pool's devices
+/// share the leaves that they shared before, and no other ones. So it is under any status once `out` was touched.
+pub fn thin_shrink_keeps_the_sharing()
+    ensures smaller { (from to pool word : List ℕ) (blocks : ℕ) (before after : Objects) (status : ℕ) → IsName from → IsName to → IsName pool → IsName word → number_below (2 ^ 64) word ≡ Some blocks → CallEnds (codes "thin_shrink" ∷ codes "--shared" ∷ codes "-i" ∷ from ∷ codes "-o" ∷ to ∷ codes "--data" ∷ pool ∷ codes "--nr-blocks" ∷ word ∷ []) status before after → IsWorkDone before after status → HoldsShrunk blocks before after }
+    ensures sharing { (from to pool word : List ℕ) (blocks : ℕ) (before after : Objects) (status : ℕ) → IsName from → IsName to → IsName pool → IsName word → number_below (2 ^ 64) word ≡ Some blocks → CallEnds (codes "thin_shrink" ∷ codes "--shared" ∷ codes "-i" ∷ from ∷ codes "-o" ∷ to ∷ codes "--data" ∷ pool ∷ codes "--nr-blocks" ∷ word ∷ []) status before after → IsWorkDone before after status → HoldsSharing blocks before after }
+{
+    shrunk_pool_is_clean_and_reads_the_same();
+    shrunk_pool_keeps_its_sharing();
 }
 
 /// The words `thin_restore -i FILE -o IMAGE`, in either order, ask for the restore of a pool from FILE to IMAGE.
