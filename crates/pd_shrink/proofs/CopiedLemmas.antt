@@ -1,33 +1,32 @@
 -- What the copying of a plan comes to, and the writing.
-use Rattle.std.proofs.Common.{◌≡◌, ℕ, ◌≤◌, List, [], length, map, Some, None, IfSome, sym, ap, ◌∙◌, subst, arith}
+use Rattle.std.proofs.Common.{◌≡◌, ℕ, ◌≤◌, Bool, List, [], length, map, Some, None, IfSome, sym, ap, ◌∙◌, subst, arith}
 use Rattle.std.proofs.lemmas.List.{length-map, nil_from_length}
 use Rattle.pd_kinds.specs.Crash.{HoldsSynced, LeavesOnly}
 use Rattle.pd_kinds.specs.Limits.{room_of}
-use Rattle.pd_kinds.specs.Meaning.{ThinPool}
 use Rattle.pd_kinds.specs.Moments.{after_sync}
 use Rattle.pd_kinds.specs.Objects.{DeviceState}
 use Rattle.pd_image.proofs.CrashLemmas.{at_some, synced_now}
-use Rattle.pd_spells.specs.ThinNeed.{thin_need}
 use Rattle.pd_answers.specs.CachedView.{blocks_each}
 use Rattle.pd_answers.specs.MovedPool.{Move, copy_of_move, data_after, sources}
-use Rattle.pd_answers.specs.Shrinks.{ShrinkGround, lack_of, moves_of}
-use Rattle.pd_restore.specs.Made.{IsMadeOf, short}
-use Rattle.pd_salvage.specs.Saved.{pool_of}
+use Rattle.pd_answers.specs.Shrinks.{ShrinkGround, lack_of, moves_of, pool_before}
+use Rattle.pd_restoring.specs.Made.{Content, Ending, IsMade, short}
 use Rattle.pd_writeback.proofs.OverlaidLemmas.{overlaid_none}
 use Rattle.pd_shrink.specs.declared.plan.Shrink.{Shrink}
+use Rattle.pd_shrink.specs.Kept.{kept_content, kept_pool, saved_content}
 use Rattle.pd_shrink.specs.Moves.{AreApart, IsLeftKept, move_in, moves_in}
-use Rattle.pd_shrink.specs.Planned.{IsPlanOf}
+use Rattle.pd_shrink.specs.Planned.{IsPlanOf, content_after, saved_after}
+use Rattle.pd_shrink.proofs.KeptLemmas.{by_kept}
 use Rattle.pd_shrink.proofs.RoomLemmas.{all_moved}
 
 abbrev Image : Type 0
 Image = List (List ℕ)
 
-module _ (basis : ShrinkGround) (shrink : Shrink) (of : IsPlanOf basis shrink) where
+module _ {is_shared : Bool} (basis : ShrinkGround is_shared) (shrink : Shrink) (of : IsPlanOf basis shrink) where
   abbrev k : ℕ
-  k = blocks_each basis.pool.block_size
+  k = blocks_each (pool_before basis).block_size
 
   -- how many are moved
-  pub number_moved : lack_of basis ≡ None → length shrink.moves.items ≡ length (sources basis.pool basis.end)
+  pub number_moved : lack_of basis ≡ None → length shrink.moves.items ≡ length (sources (pool_before basis) basis.end)
   number_moved none = sym (length-map shrink.moves.items move_in) ∙ (ap (λ (moves : List Move). length moves) of.moves ∙ all_moved basis none)
 
   -- where nothing is moved, the data device stays
@@ -53,13 +52,19 @@ module _ (basis : ShrinkGround) (shrink : Shrink) (of : IsPlanOf basis shrink) w
       (subst (λ (n : ℕ). LeavesOnly (IsLeftKept n (map copy_of_move (moves_in shrink.moves.items)) held) old new) of.each leaves)
 
 -- what has room isn't refused
-pub has_room : (m : ThinPool) (output need blocks : ℕ) {old new : DeviceState} → thin_need m (room_of output) ≤ room_of output → old.blocks ≡ output → IsMadeOf m (short need blocks) old new → ⊥
-has_room m output need blocks {old} {new} fits same made =
+pub has_room : (content : Content) (output need blocks : ℕ) {old new : DeviceState} → content.need (room_of output) ≤ room_of output → old.blocks ≡ output → IsMade content (short need blocks) old new → ⊥
+has_room content output need blocks {old} {new} fits same made =
     let need_is = made.answer.0 in
     let less = made.answer.1.1 in
-    let fits' : thin_need m (room_of old.blocks) ≤ room_of old.blocks = subst (λ (n : ℕ). thin_need m (room_of n) ≤ room_of n) (sym same) fits in
+    let fits' : content.need (room_of old.blocks) ≤ room_of old.blocks = subst (λ (n : ℕ). content.need (room_of n) ≤ room_of n) (sym same) fits in
     omega (arith, need_is, less, fits')
+
+-- what is made of what is held is made of the pool that it is
+pub made_of : {is_shared : Bool} (basis : ShrinkGround is_shared) (shrink : Shrink) (ending : Ending) (old new : DeviceState) → IsPlanOf basis shrink
+    → IsMade (kept_content shrink.moved) ending old new → IsMade (content_after basis) ending old new
+made_of {is_shared} basis shrink ending old new of made =
+    by_kept (λ is_shared saved. IsMade (saved_content is_shared saved) ending old new) is_shared (saved_after basis) shrink.moved of.pool made
 
 -- what a plan moves can be moved on a device with as many blocks as it has
 pub moves_apart : (shrink : Shrink) {blocks : ℕ} → blocks ≡ shrink.pool_blocks → AreApart shrink.each blocks shrink.moves.items
-moves_apart shrink same = rw same (record { end = (pool_of shrink.moved).data_blocks; across = shrink.across; once = shrink.once })
+moves_apart shrink same = rw same (record { end = (kept_pool shrink.moved).data_blocks; across = shrink.across; once = shrink.once })

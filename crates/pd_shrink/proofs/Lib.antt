@@ -3,10 +3,15 @@ pub mod SearchLemmas
 pub mod FreeLemmas
 pub mod MovedLemmas
 pub mod PairLemmas
+pub mod KeptLemmas
+pub mod ToldLemmas
 pub mod SpanLemmas
 pub mod PlaceLemmas
 pub mod MovingLemmas
 pub mod MovesLemmas
+pub mod PartLemmas
+pub mod ShapeParts
+pub mod ShapeMoves
 pub mod RoomLemmas
 pub mod SuperLemmas
 pub mod PlanLemmas

@@ -17,7 +17,7 @@ use Rattle.pd_salvage.specs.declared.saved.SavedHead.{SavedHead}
 use Rattle.pd_salvage.specs.Gather.{mappings_of_runs}
 use Rattle.pd_salvage.specs.Saved.{IsSavedPool, SavedPool, parts_of, pool_of, runs_of_devices}
 use Rattle.pd_shrink.specs.declared.moving.Moved.{Moved}
-use Rattle.pd_shrink.specs.Moving.{AreMoved, AreMovesFrom, AreMovesOf, FitsRun}
+use Rattle.pd_shrink.specs.Moving.{AreMoved, AreMovesFrom, AreMovesOf, FitsRun, head_to}
 use Rattle.pd_shrink.proofs.MovingLemmas.{others}
 
 -- what is kept of a range ascends from a number that all of it have passed
@@ -59,7 +59,7 @@ after_run : (blocks least v d t n : ℕ) (rest : List Mapping) → AreMappings b
 after_run blocks least v d t zero rest are = (least, are)
 after_run blocks least v d t (suc n) rest are = after_run blocks (v + 1) (suc v) (suc d) t n rest are.1
 
-part_fits : (blocks least : ℕ) (runs : List Run) → blocks ≤ 2 ^ 40 → AreMappings blocks least (mappings_of_runs runs) → AllByRecursion FitsRun runs
+pub part_fits : (blocks least : ℕ) (runs : List Run) → blocks ≤ 2 ^ 40 → AreMappings blocks least (mappings_of_runs runs) → AllByRecursion FitsRun runs
 part_fits blocks least [] few are = tt
 part_fits blocks least (r ∷ runs) few are =
     let later = after_run blocks least r.virt r.target r.time r.length (mappings_of_runs runs) are in
@@ -74,34 +74,32 @@ parts_fit blocks least (d ∷ ds) runs few are number =
     (all_append FitsRun (take d.runs runs) (drop d.runs runs) (part_fits blocks 0 (take d.runs runs) few are.0.mappings)
     (parts_fit blocks (d.id + 1) ds (drop d.runs runs) few are.1 (others d ds runs number)))
 
--- a pool with its new end
-abbrev head_to : SavedHead → ℕ → SavedHead
-head_to head end = record { uuid = head.uuid; time = head.time; transaction = head.transaction; block_size = head.block_size; blocks = end }
-
+-- a pool with this head
 abbrev pool_with : SavedHead → List ThinDevice → ThinPool
 pool_with head ds = record { uuid = head.uuid; time = head.time; transaction = head.transaction; block_size = head.block_size; data_blocks = head.blocks; devices = ds }
 
-module _ (saved : SavedPool) (sound : IsSavedPool saved) (end : ℕ) (moves : List Move) (are : AreMovesOf (pool_of saved) end moves) where
-  pub moves_are_ordered : AreMovesFrom (2 ^ 40) end moves
-  moves_are_ordered =
-      subst (AreMovesFrom (2 ^ 40) end) (sym are.are)
-      (moves_ordered (2 ^ 40) end end (sources (pool_of saved) end) are.free (le_trans are.moving.end_within sound.lawful.data_blocks_fit) (sources_from (pool_of saved) end) are.moving.below)
+-- the moves of a lawful pool
+pub moves_are_ordered : (m : ThinPool) → IsLawfulPool m → (end : ℕ) (moves : List Move) → AreMovesOf m end moves → AreMovesFrom (2 ^ 40) end moves
+moves_are_ordered m lawful end moves are =
+    subst (AreMovesFrom (2 ^ 40) end) (sym are.are)
+    (moves_ordered (2 ^ 40) end end (sources m end) are.free (le_trans are.moving.end_within lawful.data_blocks_fit) (sources_from m end) are.moving.below)
 
+module _ (saved : SavedPool) (sound : IsSavedPool saved) (end : ℕ) (moves : List Move) (are : AreMovesOf (pool_of saved) end moves) where
   pub runs_fit : AllByRecursion FitsRun saved.runs
   unfolding pool_of
   runs_fit = parts_fit saved.head.blocks 0 saved.devices saved.runs sound.lawful.data_blocks_fit sound.lawful.devices sound.number
 
   -- the moved devices and runs are those of the smaller pool
-  module _ (old : SavedHead) (devices : List SavedDevice) (runs : List Run) (moved : Moved) (head_is : old ≡ saved.head) (devices_are : devices ≡ saved.devices)
+  module _ (head : SavedHead) (devices : List SavedDevice) (runs : List Run) (moved : Moved) (head_is : head ≡ head_to saved.head end) (devices_are : devices ≡ saved.devices)
       (runs_are : runs ≡ saved.runs) (is : AreMoved moves devices runs moved) where
     abbrev after : SavedPool
-    after = record { head = head_to old end; devices = moved.devices.items; runs = moved.runs.items }
+    after = record { head = head; devices = moved.devices.items; runs = moved.runs.items }
 
     pub pool_after : pool_of after ≡ moved_pool (pool_of saved) end moves
     unfolding pool_of moved_pool
     pool_after =
         let same = rw (devices_are, runs_are) at is.same in
-        ap (λ (head : SavedHead). pool_with (head_to head end) (map device_of_part (parts_of moved.devices.items moved.runs.items))) head_is
+        ap (λ (first : SavedHead). pool_with first (map device_of_part (parts_of moved.devices.items moved.runs.items))) head_is
         ∙ ap (pool_with (head_to saved.head end)) same
 
     pub after_sound : ((m : ThinPool) (end : ℕ) (free : List ℕ) → IsLawfulPool m → IsMoving m end free → IsLawfulPool (moved_pool m end (moves_to (sources m end) free))) → IsSavedPool after

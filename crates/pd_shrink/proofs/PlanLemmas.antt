@@ -1,5 +1,5 @@
 -- What a plan is made of, and what becomes of it.
-use Rattle.std.proofs.Common.{◌≡◌, inl, inr, ℕ, ◌+◌, ◌-◌, ◌<◌, ◌≤◌, min, true, false, nat_lt, List, [], ◌∷◌, ◌++◌, length, take, replicate, Option, Some, None, IfSome, Result, Ok, Err, refl, sym, ap, ◌∙◌, subst, arith, append-nil}
+use Rattle.std.proofs.Common.{◌≡◌, inl, inr, ℕ, ◌+◌, ◌-◌, ◌<◌, ◌≤◌, min, Bool, true, false, nat_lt, List, [], ◌∷◌, ◌++◌, length, take, replicate, Option, Some, None, IfSome, Result, Ok, Err, refl, sym, ap, ◌∙◌, subst, arith, append-nil}
 use Rattle.std.proofs.lemmas.Bool.{cases_Bool, ltb-false, ltb-true}
 use Rattle.std.proofs.lemmas.List.{length-append, length-replicate, take_all, take-append-le}
 use Rattle.pd_kinds.specs.declared.kind.Kind.TheVariants.{Thin}
@@ -13,24 +13,27 @@ use Rattle.pd_kinds.specs.Limits.{room_of}
 use Rattle.pd_kinds.specs.Meaning.{ThinPool, thin_meaning}
 use Rattle.pd_kinds.specs.Stages.{Checked, checked_of, faults, first_failing, stage_faults}
 use Rattle.pd_kinds.specs.ThinSuper.{ThinFields, thin_fields, thin_super_bad}
-use Rattle.pd_laid.specs.Salvage.{salvage, salvage_from}
+use Rattle.pd_laid.specs.Shape.{pool_of}
 use Rattle.pd_smap.specs.Entries.{IsIndex, IsOverflow}
-use Rattle.pd_spells.specs.ThinNeed.{thin_need}
 use Rattle.pd_answers.specs.CachedView.{blocks_each, is_block_size_bad}
+use Rattle.pd_answers.specs.Makings.{Making}
 use Rattle.pd_answers.specs.MovedPool.{Move, data_need, end_of_pool, free_blocks, moved_pool, moves_to, sources}
+use Rattle.pd_answers.specs.MovedShape.{moved_saved, moved_shape, saved_pool, saved_whole}
+use Rattle.pd_answers.specs.Repairs.{Saved, saved_making}
 use Rattle.pd_answers.specs.Shrinks.{IsGroundOf, ShrinkGround, bad_block_size, no_room}
 use Rattle.pd_changed.specs.Moving.{AreBelow, Ascend}
-use Rattle.pd_salvage.specs.declared.saved.SavedHead.{SavedHead}
-use Rattle.pd_salvage.specs.Saved.{SavedPool, pool_of}
 use Rattle.pd_shrink.specs.declared.fault.ShrinkFault.{ShrinkFault}
 use Rattle.pd_shrink.specs.declared.fault.ShrinkFault.TheVariants as f
+use Rattle.pd_shrink.specs.declared.kept.Kept.{Kept}
 use Rattle.pd_shrink.specs.declared.moves.MovedBlock.{MovedBlock}
 use Rattle.pd_shrink.specs.declared.plan.Shrink.{Shrink}
 use Rattle.pd_shrink.specs.Failing.{CountsPlanning}
+use Rattle.pd_shrink.specs.Kept.{IsKept, kept_making, kept_pool, moved_in, saved_in, shared_of}
 use Rattle.pd_shrink.specs.Making.{Finishes, HasMoves, IsSoundPool, IsSoundWith, LooksAtRoom, MissesMoves, lack_of_moves}
 use Rattle.pd_shrink.specs.Moves.{moves_in}
 use Rattle.pd_shrink.specs.Planned.{HasLack, Plans}
 use Rattle.pd_shrink.specs.Unused.{unused_below}
+use Rattle.pd_shrink.proofs.KeptLemmas.{by_kept, whole_number, whole_size}
 use Rattle.pd_shrink.proofs.MovesLemmas.{sources_from}
 use Rattle.pd_shrink.proofs.RoomLemmas.{across_all, bad_size, data_enough, free_enough, moves_lacking, moves_take, nothing_lacking, once_all, output_lacking}
 use Rattle.pd_shrink.proofs.SuperLemmas.{sound_where_none}
@@ -51,11 +54,13 @@ none_whole : (image : Image) → faults Thin Counts image ≡ [] → faults Thin
 unfolding faults
 none_whole image none = none_before (checked_of Thin image) image (Super ∷ Walk ∷ Order ∷ Whole ∷ []) (Counts ∷ []) none
 
--- what is saved of a pool without faults is its meaning
-pub saved_means : ((image : Image) → HasBytes image → faults Thin Whole image ≡ [] → salvage image ≡ thin_meaning image) → (s : ThinFields) (m : ThinPool) (held : Option Image) → IfSome held HasBytes
-    → IfSome held (IsSoundWith s) → IfSome held (λ image. m ≡ salvage_from s image) → IfSome held (λ image. m ≡ thin_meaning image)
-saved_means law s m None bytes sound is = tt
-saved_means law s m (Some image) bytes sound is = is ∙ (ap (λ (fields : ThinFields). salvage_from fields image) sound.fields ∙ law image bytes (none_whole image sound.none))
+-- what is saved of a pool without faults is its own
+pub saved_means : {M : Type 0} (from : ThinFields → Image → M) (whole : Image → M)
+    → ((image : Image) → HasBytes image → faults Thin Whole image ≡ [] → from (thin_fields (block_at image 0)) image ≡ whole image) → (s : ThinFields) (saved : M) (held : Option Image)
+    → IfSome held HasBytes → IfSome held (IsSoundWith s) → IfSome held (λ image. saved ≡ from s image) → IfSome held (λ image. saved ≡ whole image)
+saved_means from whole law s saved None bytes sound is = tt
+saved_means from whole law s saved (Some image) bytes sound is =
+    is ∙ (ap (λ (fields : ThinFields). from fields image) sound.fields ∙ law image bytes (none_whole image sound.none))
 
 blocks_are : (image : Image) → (thin_meaning image).data_blocks ≡ (thin_fields (block_at image 0)).data_map.blocks
 unfolding thin_meaning
@@ -72,7 +77,7 @@ pub record HasFree (held : Option Image) (end wanted number : ℕ) (first : List
   pub first_are : first ≡ take wanted all
   pub told : IfSome held (λ image. all ≡ free_blocks image end)
 
-module _ (map : SmRoot) (m : ThinPool) (end wanted number : ℕ) (first : List ℕ) where
+module _ (map : SmRoot) (kept : Kept) (end wanted number : ℕ) (first : List ℕ) where
   -- where nothing is told, some numbers serve
   free_untold : length first ≡ min wanted number → HasFree None end wanted number first
   free_untold few =
@@ -97,7 +102,7 @@ module _ (map : SmRoot) (m : ThinPool) (end wanted number : ℕ) (first : List �
   pub free_in : ((image : Image) → faults Thin Counts image ≡ [] → IsIndex image (thin_fields (block_at image 0)).data_map.bitmap_root (thin_fields (block_at image 0)).data_map.blocks)
       → ((image : Image) → faults Thin Counts image ≡ [] → IsOverflow image (thin_fields (block_at image 0)).data_map.overflow_root)
       → ((image : Image) (end : ℕ) → faults Thin Counts image ≡ [] → end ≤ (thin_fields (block_at image 0)).data_map.blocks → unused_below image (thin_fields (block_at image 0)).data_map end ≡ free_blocks image end)
-      → (held : Option Image) → IfSome held (IsSoundPool map m) → end ≤ m.data_blocks → length first ≡ min wanted number
+      → (held : Option Image) → IfSome held (IsSoundPool map kept) → end ≤ (kept_pool kept).data_blocks → length first ≡ min wanted number
       → IfSome held (λ image. (blocks : ℕ) → IsIndex image map.bitmap_root blocks → IsOverflow image map.overflow_root → end ≤ blocks → number ≡ length (unused_below image map end))
       → IfSome held (λ image. (blocks : ℕ) → IsIndex image map.bitmap_root blocks → IsOverflow image map.overflow_root → end ≤ blocks → first ≡ take wanted (unused_below image map end))
       → HasFree held end wanted number first
@@ -106,7 +111,7 @@ module _ (map : SmRoot) (m : ThinPool) (end wanted number : ℕ) (first : List �
       let blocks = (thin_fields (block_at image 0)).data_map.blocks in
       let index = subst (λ (root : SmRoot). IsIndex image root.bitmap_root blocks) (sym sound.data_map) (indexed image sound.none) in
       let overflow = subst (λ (root : SmRoot). IsOverflow image root.overflow_root) (sym sound.data_map) (overflowing image sound.none) in
-      let number_of = ap (λ (p : ThinPool). p.data_blocks) sound.means ∙ blocks_are image in
+      let number_of = whole_number (shared_of kept) (saved_in kept) image sound.means ∙ blocks_are image in
       let less : end ≤ blocks = omega arith in
       record {
         all = unused_below image map end;
@@ -154,66 +159,82 @@ module _ (held : Option Image) (m : ThinPool) (end k pool wanted number : ℕ) (
           once = once_all 0 moves (sources m end) first are ascend;
         }
 
--- the head of a pool that was saved
-pub pool_size : (saved : SavedPool) (head : SavedHead) → head ≡ saved.head → (pool_of saved).block_size ≡ head.block_size
-unfolding pool_of
-pool_size saved head is = ap (λ (h : SavedHead). h.block_size) (sym is)
-
-pub pool_number : (saved : SavedPool) (head : SavedHead) → head ≡ saved.head → (pool_of saved).data_blocks ≡ head.blocks
-unfolding pool_of
-pool_number saved head is = ap (λ (h : SavedHead). h.blocks) (sym is)
-
 -- the pool afterwards ends where it is to, and has room
-pub end_of_moved : (m after : ThinPool) (end : ℕ) (moves : List Move) → after ≡ moved_pool m end moves → after.data_blocks ≡ end
-unfolding moved_pool
-end_of_moved m after end moves is = ap (λ (p : ThinPool). p.data_blocks) is
+end_of_saved : (is_shared : Bool) (saved : Saved is_shared) (end : ℕ) (moves : List Move) → (saved_pool is_shared (moved_saved is_shared saved end moves)).data_blocks ≡ end
+unfolding moved_pool moved_shape pool_of
+end_of_saved false saved end moves = refl
+end_of_saved true saved end moves = refl
 
-pub room_enough : (m : ThinPool) (need room output : ℕ) → room ≡ room_of output → need ≡ thin_need m room → need ≤ room → thin_need m (room_of output) ≤ room_of output
-room_enough m need room output here is few = subst (λ (n : ℕ). thin_need m n ≤ n) here (subst (λ (n : ℕ). n ≤ room) is few)
+pub end_of_moved : (kept after : Kept) (end : ℕ) (moves : List Move) → IsKept (shared_of kept) (moved_in kept end moves) after → (kept_pool after).data_blocks ≡ end
+end_of_moved kept after end moves is =
+    same_end (shared_of kept) (moved_in kept end moves) after is ∙ end_of_saved (shared_of kept) (saved_in kept) end moves
+  where
+    same_end : (is_shared : Bool) (saved : Saved is_shared) (kept : Kept) → IsKept is_shared saved kept → (kept_pool kept).data_blocks ≡ (saved_pool is_shared saved).data_blocks
+    same_end is_shared saved kept is =
+        by_kept (λ is_shared saved. (kept_pool kept).data_blocks ≡ (saved_pool is_shared saved).data_blocks) is_shared saved kept is refl
+
+pub need_of_moved : (kept after : Kept) (end : ℕ) (moves : List Move) (room : ℕ) → IsKept (shared_of kept) (moved_in kept end moves) after
+    → (kept_making after).need room ≡ (saved_making (shared_of kept) (moved_in kept end moves)).need room
+need_of_moved kept after end moves room is =
+    by_kept (λ is_shared saved. (kept_making after).need room ≡ (saved_making is_shared saved).need room) (shared_of kept) (moved_in kept end moves) after is refl
+
+pub need_finished : (kept after : Kept) (end : ℕ) (moves : List Move) (need room output : ℕ) → IsKept (shared_of kept) (moved_in kept end moves) after → room ≡ room_of output
+    → need ≡ (kept_making after).need room → need ≡ (saved_making (shared_of kept) (moved_in kept end moves)).need (room_of output)
+need_finished kept after end moves need room output of here is =
+    is ∙ (ap (kept_making after).need here ∙ need_of_moved kept after end moves (room_of output) of)
+
+pub room_enough : (making : Making) (need room output : ℕ) → room ≡ room_of output → need ≡ making.need room → need ≤ room → making.need (room_of output) ≤ room_of output
+room_enough making need room output here is few = subst (λ (n : ℕ). making.need n ≤ n) here (subst (λ (n : ℕ). n ≤ room) is few)
 
 -- nothing that fails here is a device
-pub finished_counts : (m : ThinPool) (moves : List MovedBlock) (k output pool : ℕ) (result : Result Shrink ShrinkFault) {old new : ℕ} → Finishes m moves k output pool result → new ≡ old → CountsPlanning result old new
-finished_counts m moves k output pool (Ok shrink) is same = same
-finished_counts m moves k output pool (Err f.Memory) is same = same
-finished_counts m moves k output pool (Err f.Meta) is same = absurd is
-finished_counts m moves k output pool (Err f.Output) is same = absurd is
-finished_counts m moves k output pool (Err f.BlockSize) is same = same
-finished_counts m moves k output pool (Err (f.NoRoom need blocks)) is same = same
+pub finished_counts : (is_shared : Bool) (after : Saved is_shared) (moves : List MovedBlock) (k output pool : ℕ) (result : Result Shrink ShrinkFault) {old new : ℕ} → Finishes is_shared after moves k output pool result → new ≡ old
+    → CountsPlanning result old new
+finished_counts is_shared after moves k output pool (Ok shrink) is same = same
+finished_counts is_shared after moves k output pool (Err f.Memory) is same = same
+finished_counts is_shared after moves k output pool (Err f.Meta) is same = absurd is
+finished_counts is_shared after moves k output pool (Err f.Output) is same = absurd is
+finished_counts is_shared after moves k output pool (Err f.BlockSize) is same = same
+finished_counts is_shared after moves k output pool (Err (f.NoRoom need blocks)) is same = same
+
+-- a pool without a block size
+no_pool : (is_shared : Bool) → Saved is_shared
+no_pool false = record { uuid = []; time = 0; transaction = 0; block_size = 0; data_blocks = 0; devices = [] }
+no_pool true = record { uuid = []; time = 0; transaction = 0; block_size = 0; data_blocks = 0; leaves = []; devices = [] }
+
+no_size : (is_shared : Bool) → (saved_pool is_shared (no_pool is_shared)).block_size ≡ 0
+unfolding no_pool pool_of
+no_size false = refl
+no_size true = refl
 
 -- the block size is none: where nothing is told, a pool without one serves
-module _ (output pool blocks : ℕ) where
-  pub lacks_size : (held : Option Image) → IfSome held (λ image. is_block_size_bad (thin_meaning image).block_size ≡ true) → HasLack held output pool blocks bad_block_size
+module _ (is_shared : Bool) (output pool blocks : ℕ) where
+  pub lacks_size : (held : Option Image) → IfSome held (λ image. is_block_size_bad (thin_meaning image).block_size ≡ true) → HasLack is_shared held output pool blocks bad_block_size
   lacks_size None bad =
-      let basis : ShrinkGround = record {
-        pool = record { uuid = []; time = 0; transaction = 0; block_size = 0; data_blocks = 0; devices = [] };
-        end = 0;
-        free = [];
-        data_blocks = pool;
-        room = room_of output;
-      } in
-      record { basis = basis; goes_by = record { data_blocks = refl; room = refl; told = tt }; lacks = bad_size basis refl }
+      let basis : ShrinkGround is_shared = record { saved = no_pool is_shared; end = 0; free = []; data_blocks = pool; room = room_of output } in
+      record { basis = basis; goes_by = record { data_blocks = refl; room = refl; told = tt }; lacks = bad_size basis (ap is_block_size_bad (no_size is_shared)) }
   lacks_size (Some image) bad =
-      let end = end_of_pool (thin_meaning image) blocks in
-      let basis : ShrinkGround = record { pool = thin_meaning image; end = end; free = free_blocks image end; data_blocks = pool; room = room_of output } in
-      record { basis = basis; goes_by = record { data_blocks = refl; room = refl; told = record { pool = refl; end = refl; free = refl } }; lacks = bad_size basis bad }
+      let saved = saved_whole is_shared image in
+      let end = end_of_pool (saved_pool is_shared saved) blocks in
+      let basis : ShrinkGround is_shared = record { saved = saved; end = end; free = free_blocks image end; data_blocks = pool; room = room_of output } in
+      record {
+        basis = basis;
+        goes_by = record { data_blocks = refl; room = refl; told = record { saved = refl; end = refl; free = refl } };
+        lacks = bad_size basis (ap is_block_size_bad (whole_size is_shared saved image refl) ∙ bad);
+      }
 
-  pub lacks_super_size : (held : Option Image) (s : ThinFields) → IfSome held (IsSoundWith s) → is_block_size_bad s.block_size ≡ true → HasLack held output pool blocks bad_block_size
+  pub lacks_super_size : (held : Option Image) (s : ThinFields) → IfSome held (IsSoundWith s) → is_block_size_bad s.block_size ≡ true → HasLack is_shared held output pool blocks bad_block_size
   lacks_super_size None s sound bad = lacks_size None tt
   lacks_super_size (Some image) s sound bad =
       lacks_size (Some image) (ap is_block_size_bad (size_is image ∙ ap (λ (fields : ThinFields). fields.block_size) (sym sound.fields)) ∙ bad)
 
-  pub lacks_pool_size : (held : Option Image) (map : SmRoot) (m : ThinPool) → IfSome held (IsSoundPool map m) → is_block_size_bad m.block_size ≡ true → HasLack held output pool blocks bad_block_size
-  lacks_pool_size None map m sound bad = lacks_size None tt
-  lacks_pool_size (Some image) map m sound bad = lacks_size (Some image) (ap (λ (p : ThinPool). is_block_size_bad p.block_size) (sym sound.means) ∙ bad)
-
   -- no pool without faults lacks a block, or has a superblock that breaks a rule
   pub lacks_block : (held : Option Image) (there : ℕ) → there ≡ 0 → IfSome held (λ image. length image ≡ there) → IfSome held (λ image. faults Thin Counts image ≡ [])
-      → HasLack held output pool blocks bad_block_size
+      → HasLack is_shared held output pool blocks bad_block_size
   lacks_block None there none number sound = lacks_size None tt
   lacks_block (Some image) there none number sound = let some = (sound_where_none image sound).0 in absurd (omega arith)
 
   pub lacks_super : (held : Option Image) (there : ℕ) (first : List ℕ) → IfSome held (λ image. length image ≡ there) → IfSome held (λ image. first ≡ block_at image 0)
-      → IfSome held (λ image. faults Thin Counts image ≡ []) → (((rule : Rule) → thin_super_bad there first rule ≡ false) → ⊥) → HasLack held output pool blocks bad_block_size
+      → IfSome held (λ image. faults Thin Counts image ≡ []) → (((rule : Rule) → thin_super_bad there first rule ≡ false) → ⊥) → HasLack is_shared held output pool blocks bad_block_size
   lacks_super None there first number same sound broken = lacks_size None tt
   lacks_super (Some image) there first number same sound broken =
       absurd (broken (λ rule. ap (λ (n : ℕ). thin_super_bad n first rule) (sym number) ∙ (ap (λ (block : List ℕ). thin_super_bad (length image) block rule) same ∙ (sound_where_none image sound).1 rule)))
@@ -223,24 +244,33 @@ pub sound_with : (held : Option Image) (first : List ℕ) (s : ThinFields) → I
 sound_with None first s same sound of = tt
 sound_with (Some image) first s same sound of = record { none = sound; fields = of ∙ ap thin_fields same }
 
-pub sound_pool : (held : Option Image) (s : ThinFields) (m : ThinPool) → IfSome held (IsSoundWith s) → IfSome held (λ image. m ≡ thin_meaning image) → IfSome held (IsSoundPool s.data_map m)
-sound_pool None s m sound means = tt
-sound_pool (Some image) s m sound means = record { none = sound.none; data_map = ap (λ (fields : ThinFields). fields.data_map) sound.fields; means = means }
+pub lacks_pool_size : (output pool blocks : ℕ) (held : Option Image) (map : SmRoot) (kept : Kept) → IfSome held (IsSoundPool map kept) → is_block_size_bad (kept_pool kept).block_size ≡ true
+    → HasLack (shared_of kept) held output pool blocks bad_block_size
+lacks_pool_size output pool blocks None map kept sound bad = lacks_size (shared_of kept) output pool blocks None tt
+lacks_pool_size output pool blocks (Some image) map kept sound bad =
+    lacks_size (shared_of kept) output pool blocks (Some image) (ap is_block_size_bad (sym (whole_size (shared_of kept) (saved_in kept) image sound.means)) ∙ bad)
+
+pub sound_pool : (held : Option Image) (s : ThinFields) (kept : Kept) → IfSome held (IsSoundWith s) → IfSome held (λ image. saved_in kept ≡ saved_whole (shared_of kept) image) → IfSome held (IsSoundPool s.data_map kept)
+sound_pool None s kept sound means = tt
+sound_pool (Some image) s kept sound means = record { none = sound.none; data_map = ap (λ (fields : ThinFields). fields.data_map) sound.fields; means = means }
 
 -- the plan of some moves
-module _ (held : Option Image) (map : SmRoot) (m : ThinPool) (end k output pool blocks : ℕ) (sound : IfSome held (IsSoundPool map m)) (end_is : end ≡ min blocks m.data_blocks)
-    (whole : is_block_size_bad m.block_size ≡ false) (k_is : k ≡ blocks_each m.block_size) where
-  abbrev ground_with : List ℕ → ShrinkGround
-  ground_with free = record { pool = m; end = end; free = free; data_blocks = pool; room = room_of output }
+module _ (held : Option Image) (map : SmRoot) (kept : Kept) (end k output pool blocks : ℕ) (sound : IfSome held (IsSoundPool map kept)) (end_is : end ≡ min blocks (kept_pool kept).data_blocks)
+    (whole : is_block_size_bad (kept_pool kept).block_size ≡ false) (k_is : k ≡ blocks_each (kept_pool kept).block_size) where
+  abbrev m : ThinPool
+  m = kept_pool kept
+
+  abbrev ground_with : List ℕ → ShrinkGround (shared_of kept)
+  ground_with free = record { saved = saved_in kept; end = end; free = free; data_blocks = pool; room = room_of output }
 
   ground_told : (free : List ℕ) → IfSome held (λ image. free ≡ free_blocks image end) → IfSome held (λ image. IsGroundOf image blocks (ground_with free))
   ground_told free told = both held sound told
     where
-      both : (o : Option Image) → IfSome o (IsSoundPool map m) → IfSome o (λ image. free ≡ free_blocks image end) → IfSome o (λ image. IsGroundOf image blocks (ground_with free))
+      both : (o : Option Image) → IfSome o (IsSoundPool map kept) → IfSome o (λ image. free ≡ free_blocks image end) → IfSome o (λ image. IsGroundOf image blocks (ground_with free))
       both None sound told = tt
-      both (Some image) sound told = record { pool = sound.means; end = end_is ∙ ap (λ (p : ThinPool). min blocks p.data_blocks) sound.means; free = told }
+      both (Some image) sound told = record { saved = sound.means; end = end_is; free = told }
 
-  pub missed_plans : (fault : ShrinkFault) → MissesMoves held m end k pool fault → Plans held output pool blocks (Err fault)
+  pub missed_plans : (fault : ShrinkFault) → MissesMoves held m end k pool fault → Plans (shared_of kept) held output pool blocks (Err fault)
   missed_plans f.Memory is = tt
   missed_plans f.Meta is = tt
   missed_plans f.Output is = is
@@ -252,22 +282,32 @@ module _ (held : Option Image) (map : SmRoot) (m : ThinPool) (end k output pool 
   }
 
   module _ (free : List ℕ) (moves : List MovedBlock) (has : HasMoves held m end k pool free moves) where
-    abbrev basis : ShrinkGround
+    abbrev basis : ShrinkGround (shared_of kept)
     basis = ground_with free
 
     room : lack_of_moves (blocks_each m.block_size) (sources m end) (length free) end pool ≡ None
     room = subst (λ (n : ℕ). lack_of_moves n (sources m end) (length free) end pool ≡ None) k_is has.room
 
-    after_is : moved_pool m end (moves_in moves) ≡ moved_pool m end (moves_to (sources m end) free)
-    after_is = ap (moved_pool m end) has.are
+    after_is : moved_in kept end (moves_in moves) ≡ moved_in kept end (moves_to (sources m end) free)
+    after_is = ap (moved_in kept end) has.are
 
-    pub finished_plans : (result : Result Shrink ShrinkFault) → Finishes (moved_pool m end (moves_in moves)) moves k output pool result → Plans held output pool blocks result
+    abbrev making_of : Saved (shared_of kept) → Making
+    making_of after = saved_making (shared_of kept) after
+
+    need_is : (making_of (moved_in kept end (moves_in moves))).need (room_of output) ≡ (making_of (moved_in kept end (moves_to (sources m end) free))).need (room_of output)
+    need_is = ap (λ (after : Saved (shared_of kept)). (making_of after).need (room_of output)) after_is
+
+    pub finished_plans : (result : Result Shrink ShrinkFault) → Finishes (shared_of kept) (moved_in kept end (moves_in moves)) moves k output pool result → Plans (shared_of kept) held output pool blocks result
     finished_plans (Ok shrink) is = (
       basis,
       record {
         goes_by = record { data_blocks = refl; room = refl; told = ground_told free has.told };
-        fits = nothing_lacking basis whole room (subst (λ (p : ThinPool). thin_need p (room_of output) ≤ room_of output) after_is is.fits);
-        plan = record { pool = is.moved ∙ after_is; moves = ap moves_in is.moves_are ∙ has.are; each = is.each ∙ k_is };
+        fits = nothing_lacking basis whole room (subst (λ (n : ℕ). n ≤ room_of output) need_is is.fits);
+        plan = record {
+          pool = subst (λ (after : Saved (shared_of kept)). IsKept (shared_of kept) after shrink.moved) after_is is.moved;
+          moves = ap moves_in is.moves_are ∙ has.are;
+          each = is.each ∙ k_is;
+        };
         output_blocks = is.output_blocks;
         pool_blocks = is.pool_blocks;
       },
@@ -280,7 +320,6 @@ module _ (held : Option Image) (map : SmRoot) (m : ThinPool) (end k output pool 
       basis = basis;
       goes_by = record { data_blocks = refl; room = refl; told = ground_told free has.told };
       lacks =
-          output_lacking basis whole room (subst (λ (p : ThinPool). room_of output < thin_need p (room_of output)) after_is (subst (λ (n : ℕ). room_of output < n) is.0 is.1.1))
-          ∙ (ap (λ (n : ℕ). Some (no_room n (room_of output))) (sym (is.0 ∙ ap (λ (p : ThinPool). thin_need p (room_of output)) after_is))
-          ∙ ap (λ (n : ℕ). Some (no_room need n)) (sym is.1.0));
+          output_lacking basis whole room (subst (λ (n : ℕ). room_of output < n) (is.0 ∙ need_is) is.1.1)
+          ∙ (ap (λ (n : ℕ). Some (no_room n (room_of output))) (sym (is.0 ∙ need_is)) ∙ ap (λ (n : ℕ). Some (no_room need n)) (sym is.1.0));
     }

@@ -1,11 +1,10 @@
 -- What a shrink lacks, and what it moves where nothing is lacking.
-use Rattle.std.proofs.Common.{◌≡◌, inl, inr, ℕ, suc, ◌+◌, ◌-◌, ◌*◌, ◌<◌, ◌≤◌, max, true, false, nat_eq, nat_lt, List, [], ◌∷◌, length, map, take, Option, Some, None, refl, sym, ap, ◌∙◌, arith, le-ltb, lt-ltb}
+use Rattle.std.proofs.Common.{◌≡◌, inl, inr, ℕ, suc, ◌+◌, ◌-◌, ◌*◌, ◌<◌, ◌≤◌, max, Bool, true, false, nat_eq, nat_lt, List, [], ◌∷◌, length, map, take, Option, Some, None, refl, sym, ap, ◌∙◌, arith, le-ltb, lt-ltb}
 use Rattle.std.specs.List.{AllByRecursion, fold, list_any}
 use Rattle.std.proofs.lemmas.Bool.{cases_Bool, ltb-false, ne_eqb}
-use Rattle.pd_spells.specs.ThinNeed.{thin_need}
 use Rattle.pd_answers.specs.CachedView.{blocks_each, is_block_size_bad}
 use Rattle.pd_answers.specs.MovedPool.{Move, data_need, moves_to, sources}
-use Rattle.pd_answers.specs.Shrinks.{ShrinkLack, ShrinkGround, bad_block_size, lack_of, moves_of, no_room, or_lack, pool_after}
+use Rattle.pd_answers.specs.Shrinks.{ShrinkLack, ShrinkGround, bad_block_size, lack_of, making_after, moves_of, no_room, or_lack, pool_before}
 use Rattle.pd_changed.specs.Moving.{AreBelow, Ascend}
 use Rattle.pd_shrink.specs.Making.{lack_of_moves}
 use Rattle.pd_shrink.specs.Moves.{AreOnce, IsAcross, move_in, moves_in}
@@ -45,24 +44,24 @@ module _ (k : ℕ) (ds : List ℕ) (number end pool : ℕ) (none : lack_of_moves
   data_enough = (nothing_lacks (data_need k ds) pool None (nothing_lacks ((end - number) + length ds) end (or_lack (data_need k ds) pool None) none).1).0
 
 -- what a shrink lacks
-module _ (basis : ShrinkGround) where
+module _ {is_shared : Bool} (basis : ShrinkGround is_shared) where
   abbrev k : ℕ
-  k = blocks_each basis.pool.block_size
+  k = blocks_each (pool_before basis).block_size
 
   abbrev ds : List ℕ
-  ds = sources basis.pool basis.end
+  ds = sources (pool_before basis) basis.end
 
   abbrev need : ℕ
-  need = thin_need (pool_after basis) basis.room
+  need = (making_after basis).need basis.room
 
   abbrev moves_lack : Option ShrinkLack
   moves_lack = lack_of_moves k ds (length basis.free) basis.end basis.data_blocks
 
-  pub bad_size : is_block_size_bad basis.pool.block_size ≡ true → lack_of basis ≡ Some bad_block_size
+  pub bad_size : is_block_size_bad (pool_before basis).block_size ≡ true → lack_of basis ≡ Some bad_block_size
   unfolding lack_of
   bad_size bad = rw bad refl
 
-  module _ (whole : is_block_size_bad basis.pool.block_size ≡ false) where
+  module _ (whole : is_block_size_bad (pool_before basis).block_size ≡ false) where
     lack_is : lack_of basis ≡ or_lack ((basis.end - length basis.free) + length ds) basis.end (or_lack (data_need k ds) basis.data_blocks (or_lack need basis.room None))
     unfolding lack_of
     lack_is = rw whole refl
@@ -90,7 +89,7 @@ module _ (basis : ShrinkGround) where
 
   -- where nothing is lacking, each source is moved
   pub all_moved : lack_of basis ≡ None → length (moves_of basis) ≡ length ds
-  all_moved none = elim (cases_Bool (is_block_size_bad basis.pool.block_size)) [
+  all_moved none = elim (cases_Bool (is_block_size_bad (pool_before basis).block_size)) [
     | inl bad ↦ absurd (isnt_none (sym (bad_size bad) ∙ none))
     | inr whole ↦
         let room = (nothing_lacks ((basis.end - length basis.free) + length ds) basis.end (or_lack (data_need k ds) basis.data_blocks (or_lack need basis.room None)) (sym (lack_is whole) ∙ none)).0 in

@@ -13,12 +13,23 @@ use Rattle.pd_smap.proofs.StepLemmas.{range_split}
 use Rattle.pd_spells.specs.ThinNeed.{mapped_data}
 use Rattle.pd_thin_meaning.specs.declared.joined.Run.{Run}
 use Rattle.pd_answers.specs.MovedPool.{sources}
-use Rattle.pd_salvage.specs.Saved.{IsSavedPool, SavedPool, pool_of}
+use Rattle.pd_kinds.specs.Meaning.{ThinPool}
+use Rattle.pd_laid.specs.Shape.{pool_of as pool_of_shape}
+use Rattle.pd_laid.proofs.GatherLemmas.{all_first, all_last}
+use Rattle.pd_laws.proofs.AllLemmas.{all_append}
+use Rattle.pd_salvage.specs.Saved.{pool_of}
+use Rattle.pd_salvage.specs.SavedShape.{held_shape}
 use Rattle.pd_restore.specs.Overflowing.{data_of_runs}
 use Rattle.pd_restore.proofs.OverflowingLemmas.{row_more}
 use Rattle.pd_restore.proofs.SavedNeedLemmas.{IsWithin, data_is, runs_within}
+use Rattle.pd_restore.proofs.ShapePartLemmas.{data_is as shape_data_is, leaf_runs_within, own_runs_within}
+use Rattle.pd_shrink.specs.declared.kept.Kept.{Kept}
+use Rattle.pd_shrink.specs.declared.kept.Kept.TheVariants.{Pool, Shape}
+use Rattle.pd_shrink.specs.Kept.{IsSoundKept, kept_pool, leaf_runs_in, own_runs_in}
 use Rattle.pd_shrink.specs.Spans.{blocks_between, has_block, is_in_spans, span_between, spans_past, union_from}
 use Rattle.pd_shrink.specs.declared.sources.Span.{Span}
+use Rattle.pd_shrink.proofs.KeptLemmas.{lawful_kept}
+use Rattle.pd_shrink.proofs.ToldLemmas.{told_names}
 
 -- a filter of a row of which none passes, and of one of which each does
 none_passes : (p : ℕ → Bool) (a n : ℕ) → ((b : ℕ) → a ≤ b → b < a + n → p b ≡ false) → filter p (range_with_len a n) ≡ []
@@ -158,30 +169,62 @@ past_within n end (r ∷ runs) within = one (ltb (max r.target end) (r.target + 
     one true rest = (within.0, rest)
     one false rest = rest
 
--- what runs have past the end, in order and each once, is what must be moved
-pub sources_are : (saved : SavedPool) (end : ℕ) (spans sorted : List Span) → IsSavedPool saved → spans ≡ spans_past end saved.runs → IsPermutation spans sorted
-    → IsNonDecreasingBy (λ (s : Span). s.first) sorted → union_from 0 sorted ≡ sources (pool_of saved) end
-unfolding sources pool_of
-sources_are saved end spans sorted sound are same ordered =
-    union_is sorted 0 0 saved.head.blocks (omega arith) (ascend 0 sorted ordered (λ d some. omega arith))
-    (recursion_from_All P sorted (All-permutation P spans sorted same (rw are (All-from_recursion P (spans_past end saved.runs) (past_within saved.head.blocks end saved.runs (runs_within saved sound))))))
-    ∙ (ap (λ (n : ℕ). filter (is_in_spans sorted) (range_with_len 0 n)) (let all : saved.head.blocks - 0 ≡ saved.head.blocks = omega arith in all)
-    ∙ filter_agree (is_in_spans sorted) (λ b. leb end b && list_any (λ d. eqb d b) (mapped_data (pool_of saved))) (λ b.
+-- what runs have past the end, in order and each once, is what must be moved, where they have the data blocks that a pool maps
+pub sources_are : (m : ThinPool) (end : ℕ) (runs : List Run) (spans sorted : List Span) → AllByRecursion (IsWithin m.data_blocks) runs
+    → ((b : ℕ) → list_any (λ d. eqb d b) (mapped_data m) ≡ list_any (λ d. eqb d b) (data_of_runs runs)) → spans ≡ spans_past end runs → IsPermutation spans sorted
+    → IsNonDecreasingBy (λ (s : Span). s.first) sorted → union_from 0 sorted ≡ sources m end
+unfolding sources
+sources_are m end runs spans sorted within names are same ordered =
+    union_is sorted 0 0 m.data_blocks (omega arith) (ascend 0 sorted ordered (λ d some. omega arith))
+    (recursion_from_All P sorted (All-permutation P spans sorted same (rw are (All-from_recursion P (spans_past end runs) (past_within m.data_blocks end runs within)))))
+    ∙ (ap (λ (n : ℕ). filter (is_in_spans sorted) (range_with_len 0 n)) (let all : m.data_blocks - 0 ≡ m.data_blocks = omega arith in all)
+    ∙ filter_agree (is_in_spans sorted) (λ b. leb end b && list_any (λ d. eqb d b) (mapped_data m)) (λ b.
     sym (list_any-IsPermutation (has_block b) spans sorted same)
-    ∙ (ap (λ (ss : List Span). is_in_spans ss b) are
-    ∙ (runs_have b end saved.runs ∙ ap (λ (bs : List ℕ). leb end b && list_any (λ d. eqb d b) bs) (sym (data_is saved sound)))))
-    (range_with_len 0 saved.head.blocks))
+    ∙ (ap (λ (ss : List Span). is_in_spans ss b) are ∙ (runs_have b end runs ∙ ap (λ (t : Bool). leb end b && t) (sym (names b)))))
+    (range_with_len 0 m.data_blocks))
   where
     P : Span → Type 0
-    P s = s.stop ≤ saved.head.blocks
+    P s = s.stop ≤ m.data_blocks
+
+-- the runs of a pool that is held are in it, and have the data blocks that it maps
+within_kept : (kept : Kept) → IsSoundKept kept → AllByRecursion (IsWithin (kept_pool kept).data_blocks) (leaf_runs_in kept ++ own_runs_in kept)
+unfolding pool_of pool_of_shape held_shape
+within_kept (Pool saved) sound = runs_within saved sound
+within_kept (Shape saved) sound =
+    all_append (IsWithin saved.head.blocks) saved.leaf_runs saved.runs (leaf_runs_within saved sound) (own_runs_within saved sound)
+
+names_kept : (kept : Kept) → IsSoundKept kept → (b : ℕ)
+    → list_any (λ d. eqb d b) (mapped_data (kept_pool kept)) ≡ list_any (λ d. eqb d b) (data_of_runs (leaf_runs_in kept ++ own_runs_in kept))
+names_kept (Pool saved) sound b = ap (λ (ds : List ℕ). list_any (λ d. eqb d b) ds) (data_is saved sound)
+names_kept (Shape saved) sound b =
+    told_names b (held_shape saved) sound.shape
+    ∙ ap (λ (ds : List ℕ). list_any (λ d. eqb d b) ds)
+    (shape_data_is saved sound ∙ sym (flat_map-append (λ (r : Run). range_with_len r.target r.length) saved.leaf_runs saved.runs))
+
+past_append : (end : ℕ) (runs others : List Run) → spans_past end runs ++ spans_past end others ≡ spans_past end (runs ++ others)
+past_append end runs others = sym (flat_map-append (λ (r : Run). span_between (max r.target end) (r.target + r.length)) runs others)
+
+pub sources_kept : (kept : Kept) (end : ℕ) (some all sorted : List Span) → IsSoundKept kept → some ≡ spans_past end (leaf_runs_in kept) → all ≡ some ++ spans_past end (own_runs_in kept)
+    → IsPermutation all sorted → IsNonDecreasingBy (λ (s : Span). s.first) sorted → union_from 0 sorted ≡ sources (kept_pool kept) end
+sources_kept kept end some all sorted sound first next same ordered =
+    sources_are (kept_pool kept) end (leaf_runs_in kept ++ own_runs_in kept) all sorted (within_kept kept sound) (names_kept kept sound)
+    (next ∙ (ap (λ (ss : List Span). ss ++ spans_past end (own_runs_in kept)) first ∙ past_append end (leaf_runs_in kept) (own_runs_in kept))) same ordered
 
 -- the end of a run is a number of its type
-pub runs_fit : (saved : SavedPool) → IsSavedPool saved → All (λ (r : Run). r.target + r.length < 2 ^ 64) saved.runs
-unfolding pool_of
-runs_fit saved sound i d within =
-    let most = sound.lawful.data_blocks_fit in
-    let here = All-from_recursion (IsWithin saved.head.blocks) saved.runs (runs_within saved sound) i d within in
+fits_each : (blocks : ℕ) (runs : List Run) → blocks ≤ 2 ^ 40 → AllByRecursion (IsWithin blocks) runs → All (λ (r : Run). r.target + r.length < 2 ^ 64) runs
+fits_each blocks runs few all i d within =
+    let here = All-from_recursion (IsWithin blocks) runs all i d within in
     omega arith
+
+pub leaf_runs_small : (kept : Kept) → IsSoundKept kept → All (λ (r : Run). r.target + r.length < 2 ^ 64) (leaf_runs_in kept)
+leaf_runs_small kept sound =
+    fits_each (kept_pool kept).data_blocks (leaf_runs_in kept) (lawful_kept kept sound).data_blocks_fit
+    (all_first (IsWithin (kept_pool kept).data_blocks) (leaf_runs_in kept) (own_runs_in kept) (within_kept kept sound))
+
+pub own_runs_small : (kept : Kept) → IsSoundKept kept → All (λ (r : Run). r.target + r.length < 2 ^ 64) (own_runs_in kept)
+own_runs_small kept sound =
+    fits_each (kept_pool kept).data_blocks (own_runs_in kept) (lawful_kept kept sound).data_blocks_fit
+    (all_last (IsWithin (kept_pool kept).data_blocks) (leaf_runs_in kept) (own_runs_in kept) (within_kept kept sound))
 
 -- one run more
 pub past_more : (end : ℕ) (runs : List Run) (i : ℕ) (d : Run) → i < length runs

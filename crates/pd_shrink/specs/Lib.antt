@@ -3,6 +3,7 @@ pub mod Gathered
 pub mod Moves
 pub mod Spans
 pub mod Moving
+pub mod Kept
 pub mod Unused
 pub mod Making
 pub mod Planned

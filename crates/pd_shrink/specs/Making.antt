@@ -1,22 +1,24 @@
 -- How the plan of a shrink is made.
-use Rattle.std.specs.Prelude.{◌≡◌, ℕ, ◌+◌, ◌-◌, ◌^◌, ◌≤◌, ◌<◌, List, [], length, Option, Some, None, Result, Ok, Err, IfSome}
+use Rattle.std.specs.Prelude.{◌≡◌, ℕ, ◌+◌, ◌-◌, ◌^◌, ◌≤◌, ◌<◌, Bool, List, [], length, Option, Some, None, Result, Ok, Err, IfSome}
 use Rattle.std.specs.List.{AllByRecursion}
 use Rattle.pd_kinds.specs.declared.kind.Kind.TheVariants.{Thin}
 use Rattle.pd_kinds.specs.declared.kind.Stage.TheVariants.{Counts}
 use Rattle.pd_kinds.specs.declared.map_root.SmRoot.{SmRoot}
 use Rattle.pd_kinds.specs.Graph.{block_at}
 use Rattle.pd_kinds.specs.Limits.{room_of}
-use Rattle.pd_kinds.specs.Meaning.{ThinPool, thin_meaning}
+use Rattle.pd_kinds.specs.Meaning.{ThinPool}
 use Rattle.pd_kinds.specs.Stages.{faults}
 use Rattle.pd_kinds.specs.ThinSuper.{ThinFields, thin_fields}
-use Rattle.pd_spells.specs.ThinNeed.{thin_need}
 use Rattle.pd_answers.specs.MovedPool.{data_need, free_blocks, moves_to, sources}
+use Rattle.pd_answers.specs.MovedShape.{saved_whole}
+use Rattle.pd_answers.specs.Repairs.{Saved, saved_making}
 use Rattle.pd_answers.specs.Shrinks.{ShrinkLack, no_room, or_lack}
-use Rattle.pd_salvage.specs.Saved.{pool_of}
 use Rattle.pd_shrink.specs.declared.fault.ShrinkFault.{ShrinkFault}
 use Rattle.pd_shrink.specs.declared.fault.ShrinkFault.TheVariants.{Memory, Meta, Output, BlockSize, NoRoom}
+use Rattle.pd_shrink.specs.declared.kept.Kept.{Kept}
 use Rattle.pd_shrink.specs.declared.moves.MovedBlock.{MovedBlock}
 use Rattle.pd_shrink.specs.declared.plan.Shrink.{Shrink}
+use Rattle.pd_shrink.specs.Kept.{IsKept, saved_in, shared_of}
 use Rattle.pd_shrink.specs.Moves.{AreOnce, IsAcross, moves_in}
 use Rattle.pd_shrink.specs.Moving.{AreMovesOf}
 
@@ -34,11 +36,11 @@ pub record IsSoundWith (s : ThinFields) (image : List (List ℕ)) : Type 0 where
   pub none : faults Thin Counts image ≡ []
   pub fields : s ≡ thin_fields (block_at image 0)
 
--- an image without faults, with the space map of its data blocks and its meaning
-pub record IsSoundPool (map : SmRoot) (m : ThinPool) (image : List (List ℕ)) : Type 0 where
+-- an image without faults, with the space map of its data blocks and what is held of it
+pub record IsSoundPool (map : SmRoot) (kept : Kept) (image : List (List ℕ)) : Type 0 where
   pub none : faults Thin Counts image ≡ []
   pub data_map : map ≡ (thin_fields (block_at image 0)).data_map
-  pub means : m ≡ thin_meaning image
+  pub means : saved_in kept ≡ saved_whole (shared_of kept) image
 
 -- what the moves of these sources lack, where so many data blocks below the new end are free
 abbrev pub lack_of_moves : ℕ → List ℕ → ℕ → ℕ → ℕ → Option ShrinkLack
@@ -75,21 +77,22 @@ MissesMoves held m end k pool BlockSize = ⊥
 MissesMoves held m end k pool (NoRoom need blocks) = LacksMoves held m end k pool (no_room need blocks)
 
 -- a plan of the pool afterwards, for which there is room
-pub record IsFinished (m : ThinPool) (moves : List MovedBlock) (k output pool : ℕ) (shrink : Shrink) : Type 0 where
-  pub moved : pool_of shrink.moved ≡ m
+pub record IsFinished (is_shared : Bool) (after : Saved is_shared) (moves : List MovedBlock) (k output pool : ℕ) (shrink : Shrink) : Type 0 where
+  pub moved : IsKept is_shared after shrink.moved
   pub moves_are : shrink.moves.items ≡ moves
   pub each : shrink.each ≡ k
   pub output_blocks : shrink.output_blocks ≡ output
   pub pool_blocks : shrink.pool_blocks ≡ pool
-  pub fits : thin_need m (room_of output) ≤ room_of output
+  pub fits : (saved_making is_shared after).need (room_of output) ≤ room_of output
 
-abbrev pub IsUnfinished : ThinPool → ℕ → ShrinkFault → Type 0
-IsUnfinished m output Memory = Unit {0}
-IsUnfinished m output Meta = ⊥
-IsUnfinished m output Output = ⊥
-IsUnfinished m output BlockSize = ⊥
-IsUnfinished m output (NoRoom need blocks) = (need ≡ thin_need m (room_of output)) × ((blocks ≡ room_of output) × (room_of output < need))
+abbrev pub IsUnfinished : (is_shared : Bool) → Saved is_shared → ℕ → ShrinkFault → Type 0
+IsUnfinished is_shared after output Memory = Unit {0}
+IsUnfinished is_shared after output Meta = ⊥
+IsUnfinished is_shared after output Output = ⊥
+IsUnfinished is_shared after output BlockSize = ⊥
+IsUnfinished is_shared after output (NoRoom need blocks) =
+    (need ≡ (saved_making is_shared after).need (room_of output)) × ((blocks ≡ room_of output) × (room_of output < need))
 
-abbrev pub Finishes : ThinPool → List MovedBlock → ℕ → ℕ → ℕ → Result Shrink ShrinkFault → Type 0
-Finishes m moves k output pool (Ok shrink) = IsFinished m moves k output pool shrink
-Finishes m moves k output pool (Err fault) = IsUnfinished m output fault
+abbrev pub Finishes : (is_shared : Bool) → Saved is_shared → List MovedBlock → ℕ → ℕ → ℕ → Result Shrink ShrinkFault → Type 0
+Finishes is_shared after moves k output pool (Ok shrink) = IsFinished is_shared after moves k output pool shrink
+Finishes is_shared after moves k output pool (Err fault) = IsUnfinished is_shared after output fault

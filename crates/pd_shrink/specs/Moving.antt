@@ -1,14 +1,23 @@
 -- The pool in memory whose data blocks were moved.
-use Rattle.std.specs.Prelude.{◌≡◌, ℕ, ◌+◌, ◌^◌, ◌≤◌, ◌<◌, List, [], ◌∷◌, ◌++◌, length, map}
+use Rattle.std.specs.Prelude.{◌≡◌, ℕ, ◌+◌, ◌^◌, ◌≤◌, ◌<◌, List, [], ◌∷◌, ◌++◌, length, map, take, drop, sum_by, Option, Some, None}
 use Rattle.std.specs.List.{AllByRecursion}
-use Rattle.pd_kinds.specs.Meaning.{ThinPool}
-use Rattle.pd_answers.specs.MovedPool.{Move, moved_device, moves_to, sources}
+use Rattle.pd_kinds.specs.Meaning.{Mapping, ThinPool}
+use Rattle.pd_answers.specs.MovedPool.{Move, moved_device, moved_mapping, moves_to, sources}
 use Rattle.pd_changed.specs.Moving.{IsMoving}
-use Rattle.pd_spells.specs.ThinText.{device_of_part}
+use Rattle.pd_spells.specs.ThinText.{device_of_part, joined_runs}
 use Rattle.pd_thin_meaning.specs.declared.joined.Run.{Run}
+use Rattle.pd_thin_meaning.specs.Joined.{spelled}
 use Rattle.pd_salvage.specs.declared.saved.SavedDevice.{SavedDevice}
+use Rattle.pd_salvage.specs.declared.saved.SavedHead.{SavedHead}
+use Rattle.pd_salvage.specs.declared.saved_shape.SavedLeaf.{SavedLeaf}
+use Rattle.pd_salvage.specs.declared.saved_shape.SavedPiece.{SavedPiece}
+use Rattle.pd_salvage.specs.declared.saved_shape.SavedPiece.TheVariants.{Own, Shared}
+use Rattle.pd_salvage.specs.Gather.{mappings_of_runs}
 use Rattle.pd_salvage.specs.Saved.{IsJoined, part_of, parts_of, runs_of_devices}
+use Rattle.pd_salvage.specs.SavedShape.{runs_of_piece}
 use Rattle.pd_shrink.specs.declared.moving.Moved.{Moved}
+use Rattle.pd_shrink.specs.declared.moving_shapes.MovedLeaves.{MovedLeaves}
+use Rattle.pd_shrink.specs.declared.moving_shapes.MovedPieces.{MovedPieces}
 
 -- the moves of a pool to a new end: its sources to the first free blocks, of which there are enough
 pub record AreMovesOf (m : ThinPool) (end : ℕ) (moves : List Move) : Type 0 where
@@ -46,3 +55,65 @@ pub record AreMoved (moves : List Move) (devices : List SavedDevice) (runs : Lis
   pub same : map device_of_part (parts_of moved.devices.items moved.runs.items) ≡ map (moved_device moves) (map device_of_part (parts_of devices runs))
   pub joined : AllByRecursion IsJoined (parts_of moved.devices.items moved.runs.items)
   pub number : runs_of_devices moved.devices.items ≡ length moved.runs.items
+
+-- the words of a superblock with so many data blocks
+abbrev pub head_to : SavedHead → ℕ → SavedHead
+head_to head end = record { uuid = head.uuid; time = head.time; transaction = head.transaction; block_size = head.block_size; blocks = end }
+
+-- runs are as long as can be
+abbrev pub AreJoined : List Run → Type 0
+AreJoined runs = joined_runs (mappings_of_runs runs) ≡ map spelled runs
+
+-- runs by the parts of a pool, each of which has so many of them, and the mappings of each part
+abbrev pub split_runs : {T : Type 0} → (T → ℕ) → List T → List Run → List (List Run)
+split_runs count [] runs = []
+split_runs count (x ∷ xs) runs = take (count x) runs ∷ split_runs count xs (drop (count x) runs)
+
+abbrev pub split_mappings : {T : Type 0} → (T → ℕ) → List T → List Run → List (List Mapping)
+split_mappings count xs runs = map mappings_of_runs (split_runs count xs runs)
+
+abbrev pub moved_mappings : List Move → List (List Mapping) → List (List Mapping)
+moved_mappings moves parts = map (map (moved_mapping moves)) parts
+
+-- a part is added with its runs, as long as can be, whose data blocks were moved; what else it says is kept
+pub record AddsPart {T K : Type 0} (count : T → ℕ) (says : T → K) (moves : List Move) (part : T) (runs : List Run) (parts : List T) (before : List Run) (parts' : List T) (after : List Run) : Type 0 where
+  pub made : T
+  pub given : List Run
+  pub parts_are : parts' ≡ parts ++ made ∷ []
+  pub runs_are : after ≡ before ++ given
+  pub number : count made ≡ length given
+  pub same : says made ≡ says part
+  pub moved : mappings_of_runs given ≡ map (moved_mapping moves) (mappings_of_runs runs)
+  pub joined : AreJoined given
+
+-- all parts with their runs, as long as can be, whose data blocks were moved; what else they say is kept
+pub record ArePartsMoved {T K : Type 0} (count : T → ℕ) (says : T → K) (moves : List Move) (parts : List T) (runs : List Run) (parts' : List T) (runs' : List Run) : Type 0 where
+  pub same : map says parts' ≡ map says parts
+  pub moved : split_mappings count parts' runs' ≡ moved_mappings moves (split_mappings count parts runs)
+  pub joined : AllByRecursion AreJoined (split_runs count parts' runs')
+  pub number : sum_by count parts' ≡ length runs'
+
+-- how many runs and mappings a shared leaf has
+abbrev pub runs_of_leaf : SavedLeaf → ℕ
+runs_of_leaf leaf = leaf.runs
+
+abbrev pub entries_of_leaf : SavedLeaf → ℕ
+entries_of_leaf leaf = leaf.entries
+
+-- the shared leaf that a piece is
+abbrev pub leaf_of_piece : SavedPiece → Option ℕ
+leaf_of_piece (Own runs) = None
+leaf_of_piece (Shared number) = Some number
+
+-- the shared leaves and the pieces of a shape, one of them or all, were moved
+abbrev pub AddsLeaf : List Move → SavedLeaf → List Run → MovedLeaves → MovedLeaves → Type 0
+AddsLeaf moves leaf runs old new = AddsPart runs_of_leaf entries_of_leaf moves leaf runs old.leaves.items old.runs.items new.leaves.items new.runs.items
+
+abbrev pub AddsPiece : List Move → SavedPiece → List Run → MovedPieces → MovedPieces → Type 0
+AddsPiece moves piece runs old new = AddsPart runs_of_piece leaf_of_piece moves piece runs old.pieces.items old.runs.items new.pieces.items new.runs.items
+
+abbrev pub AreLeavesMoved : List Move → List SavedLeaf → List Run → MovedLeaves → Type 0
+AreLeavesMoved moves leaves runs moved = ArePartsMoved runs_of_leaf entries_of_leaf moves leaves runs moved.leaves.items moved.runs.items
+
+abbrev pub ArePiecesMoved : List Move → List SavedPiece → List Run → MovedPieces → Type 0
+ArePiecesMoved moves pieces runs moved = ArePartsMoved runs_of_piece leaf_of_piece moves pieces runs moved.pieces.items moved.runs.items

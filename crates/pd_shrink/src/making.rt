@@ -3,23 +3,21 @@
 ghost use Rattle.std.specs.Prelude.{◌≡◌, ◌≤◌, ◌<◌, ℕ, false, List, IfNone, IfOk, IfSome, MatchResult};
 ghost use Rattle.pd_kinds.specs.declared.rule.Rule.{Rule as BrokenRule};
 ghost use Rattle.pd_kinds.specs.Graph.{block_at};
-ghost use Rattle.pd_kinds.specs.Meaning.{thin_meaning};
 ghost use Rattle.pd_kinds.specs.ThinSuper.{thin_fields, thin_super_bad};
 ghost use Rattle.pd_image.specs.Device.{IsAttached, OnlyReads};
 ghost use Rattle.pd_answers.specs.CachedView.{is_block_size_bad};
-ghost use Rattle.pd_salvage.specs.Saved.{pool_of};
 ghost use Rattle.pd_shrink.specs.Failing.{CountsMeta, CountsPlanning};
-ghost use Rattle.pd_shrink.specs.Making.{FitsDevice, HasMoves, IsSoundPool, IsSoundWith, MissesMoves};
+ghost use Rattle.pd_shrink.specs.Kept.{kept_pool};
+ghost use Rattle.pd_shrink.specs.Making.{FitsDevice, HasMoves, IsSoundPool, MissesMoves};
 
 use crate::fault::ShrinkFault;
 use crate::free::{find_free, stored_free_blocks_are_free};
+use crate::kept::Kept;
 use crate::moves::{MovedBlock, pair_up};
 use crate::room::look_at_room;
 use crate::sources::find_sources;
 use pd_image::Device;
 use pd_kinds::{Block, SmRoot, ThinSuper};
-use pd_laid::sound_pool_is_saved;
-use pd_salvage::{Salvage, SalvageFault, salvage};
 use pd_supers::{read_thin_super, thin_super_rules};
 use std::alloc::Global;
 
@@ -62,33 +60,12 @@ pub(crate) fn is_block_size_bad(block_size: u32) -> bool
     (block_size == 0) | (block_size % 8 != 0)
 }
 
-/// The pool with this superblock.
-pub(crate) fn read_pool<A: Device>(
-    alloc: Global,
-    meta: &mut A,
-    s: &ThinSuper,
-) -> Result<Salvage, ShrinkFault>
-    requires attached { IsAttached (A.state meta.old) }
-    requires fits { FitsDevice (A.state meta.old).blocks s.now }
-    requires sound { IfSome (A.state meta.old).held (IsSoundWith s.now) }
-    ensures means { IfOk result (λ saved. IfSome (A.state meta.old).held (λ image. pool_of saved ≡ thin_meaning image)) }
-    ensures kept { OnlyReads (A.state meta.old) (A.state meta.new) }
-    ensures faults { CountsMeta result (A.state meta.old).faults (A.state meta.new).faults }
-{
-    sound_pool_is_saved();
-    match salvage(alloc, meta, s) {
-        Ok(saved) => Ok(saved),
-        Err(SalvageFault::Memory) => Err(ShrinkFault::Memory),
-        Err(SalvageFault::Device) => Err(ShrinkFault::Meta),
-    }
-}
-
 /// The moves of a pool to a new end, with a data device of so many blocks; `each` is how many of them a data block has.
 pub(crate) fn find_moves<A: Device>(
     alloc: Global,
     meta: &mut A,
     map: &SmRoot,
-    saved: &Salvage,
+    kept: &Kept,
     end: u64,
     each: u64,
     pool_blocks: u64,
@@ -96,15 +73,15 @@ pub(crate) fn find_moves<A: Device>(
     requires attached { IsAttached (A.state meta.old) }
     requires index { map.now.bitmap_root < (A.state meta.old).blocks }
     requires overflow { map.now.overflow_root < (A.state meta.old).blocks }
-    requires end { end ≤ (pool_of saved.now).data_blocks }
-    requires sound { IfSome (A.state meta.old).held (IsSoundPool map.now (pool_of saved.now)) }
-    ensures found { MatchResult result (λ moves. (free : List ℕ) × HasMoves (A.state meta.old).held (pool_of saved.now) end each pool_blocks free moves.items)
-        (MissesMoves (A.state meta.old).held (pool_of saved.now) end each pool_blocks) }
+    requires end { end ≤ (kept_pool kept.now).data_blocks }
+    requires sound { IfSome (A.state meta.old).held (IsSoundPool map.now kept.now) }
+    ensures found { MatchResult result (λ moves. (free : List ℕ) × HasMoves (A.state meta.old).held (kept_pool kept.now) end each pool_blocks free moves.items)
+        (MissesMoves (A.state meta.old).held (kept_pool kept.now) end each pool_blocks) }
     ensures kept { OnlyReads (A.state meta.old) (A.state meta.new) }
     ensures faults { CountsPlanning result (A.state meta.old).faults (A.state meta.new).faults }
 {
     stored_free_blocks_are_free();
-    let sources = match find_sources(alloc, saved, end) {
+    let sources = match find_sources(alloc, kept, end) {
         Ok(sources) => sources,
         Err(_) => return Err(ShrinkFault::Memory),
     };

@@ -8,7 +8,7 @@ ghost use Rattle.pd_thin_meaning.specs.Joined.{spelled};
 ghost use Rattle.pd_salvage.specs.Gather.{mappings_of_runs, HasRuns, Takes};
 ghost use Rattle.pd_salvage.specs.Saved.{pool_of, runs_of_devices};
 ghost use Rattle.pd_shrink.specs.Moves.{moves_in};
-ghost use Rattle.pd_shrink.specs.Moving.{AddsMoved, AreMoved, AreMovesFrom, AreMovesOf, FitsRun};
+ghost use Rattle.pd_shrink.specs.Moving.{AddsMoved, AreMoved, AreMovesFrom, AreMovesOf, FitsRun, head_to};
 
 use crate::moves::MovedBlock;
 use crate::places::place_of;
@@ -38,17 +38,23 @@ pub fn move_pool(
     ensures { IfOk result (λ moved. pool_of moved ≡ moved_pool (pool_of saved.now) end (moves_in moves.now)) }
 {
     moved_pool_is_lawful();
-    let old = saved.head();
-    let head = SavedHead {
+    let head = head_to(saved.head(), end);
+    let moved = move_devices(alloc, saved.devices(), saved.runs(), end, moves)?;
+    let Moved { devices, runs } = moved;
+    Ok(Salvage::of_parts(head, devices, runs))
+}
+
+/// What the superblock says, with so many data blocks.
+pub(crate) fn head_to(old: &SavedHead, end: u64) -> SavedHead
+    ensures { result ≡ head_to old.now end }
+{
+    SavedHead {
         uuid: old.uuid,
         time: old.time,
         transaction: old.transaction,
         block_size: old.block_size,
         blocks: end,
-    };
-    let moved = move_devices(alloc, saved.devices(), saved.runs(), end, moves)?;
-    let Moved { devices, runs } = moved;
-    Ok(Salvage::of_parts(head, devices, runs))
+    }
 }
 
 /// The devices and their runs, whose data blocks are moved.
@@ -100,8 +106,8 @@ fn move_device(
     Ok(())
 }
 
-/// Adds the runs of a device, whose data blocks are moved.
-fn move_runs(
+/// Adds runs whose data blocks are moved, as long as can be among themselves.
+pub(crate) fn move_runs(
     mine: &[Run],
     end: u64,
     moves: &[MovedBlock],

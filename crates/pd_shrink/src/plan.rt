@@ -4,41 +4,40 @@ ghost use Rattle.std.specs.Prelude.{◌≤◌};
 ghost use Rattle.std.specs.List.{AllByRecursion};
 ghost use Rattle.std.proofs.Props.{props};
 ghost use Rattle.pd_kinds.specs.Limits.{room_of};
-ghost use Rattle.pd_salvage.specs.Saved.{pool_of};
-ghost use Rattle.pd_spells.specs.ThinNeed.{thin_need};
+ghost use Rattle.pd_shrink.specs.Kept.{kept_making, kept_pool};
 ghost use Rattle.pd_shrink.specs.Moves.{AreOnce, AreOnce-prop, IsAcross};
 
 use crate::copying::copy_moved;
 use crate::fault::ShrinkFault;
-use crate::making::{find_moves, is_block_size_bad, read_first, read_pool, sound_super};
+use crate::kept::{Kept, head_of, move_kept, need_of_kept, read_kept, restore_kept};
+use crate::making::{find_moves, is_block_size_bad, read_first, sound_super};
 use crate::moves::MovedBlock;
-use crate::moving::move_pool;
 use pd_image::{Device, Failed};
 use pd_kinds::{MAX_META_BLOCKS, SmRoot, ThinSuper};
-use pd_restore::{MadeFault, need_of_saved, restore_made};
-use pd_salvage::Salvage;
+use pd_restore::MadeFault;
 use std::alloc::Global;
 
 /// What a shrink is to do: which data blocks are moved where, and the pool afterwards.
 ///
-/// It takes 40 bytes a device, 32 a run of mappings and 16 for each data block that is moved.
+/// It takes 40 bytes a device, 32 a run of mappings and 16 for each data block that is moved. With the leaves that devices
+/// share it takes 48 bytes a device, 8 a piece and 16 a shared leaf, whose runs stand in it once.
 #[derive(Drop)]
 pub struct Shrink {
     /// The pool afterwards.
-    moved: Salvage,
+    moved: Kept,
     /// By ascending source.
     moves: Vec<MovedBlock>,
     /// How many blocks of 4096 bytes a data block has.
     each: u64,
     output_blocks: u64,
     pool_blocks: u64,
-    ghost across: { AllByRecursion (IsAcross each pool_blocks (pool_of moved).data_blocks) moves.items } by { Prim.hlevel props },
+    ghost across: { AllByRecursion (IsAcross each pool_blocks (kept_pool moved).data_blocks) moves.items } by { Prim.hlevel props },
     ghost once: { AreOnce moves.items } by { AreOnce-prop moves.items },
-    ghost fits: { thin_need (pool_of moved) (room_of output_blocks) ≤ room_of output_blocks },
+    ghost fits: { (kept_making moved).need (room_of output_blocks) ≤ room_of output_blocks },
 }
 
 impl Shrink {
-    ghost use Rattle.std.specs.Prelude.{◌≡◌, ◌<◌, ◌≤◌, ℕ, List, [], None, IfOk, IfSome, OnOk, length, map};
+    ghost use Rattle.std.specs.Prelude.{◌≡◌, ◌<◌, ◌≤◌, ℕ, Bool, true, false, List, [], None, IfOk, IfSome, OnOk, length, map};
     ghost use Rattle.std.specs.List.{AllByRecursion};
     ghost use Rattle.pd_kinds.specs.declared.kind.Kind.TheVariants.{Thin};
     ghost use Rattle.pd_kinds.specs.declared.kind.Stage.TheVariants.{Counts};
@@ -47,15 +46,15 @@ impl Shrink {
     ghost use Rattle.pd_kinds.specs.Stages.{faults};
     ghost use Rattle.pd_image.specs.Device.{IsAttached, IsWritable, KeepsPlace, OnlyReads};
     ghost use Rattle.pd_answers.specs.CachedView.{blocks_each};
-    ghost use Rattle.pd_answers.specs.MovedPool.{copy_of_move, data_after, moved_pool, sources};
-    ghost use Rattle.pd_answers.specs.Shrinks.{ShrinkGround, lack_of, moves_of, pool_after};
-    ghost use Rattle.pd_restore.specs.Made.{IsMadeOf};
-    ghost use Rattle.pd_salvage.specs.Saved.{pool_of};
+    ghost use Rattle.pd_answers.specs.MovedPool.{copy_of_move, data_after, sources};
+    ghost use Rattle.pd_answers.specs.Shrinks.{ShrinkGround, lack_of, moves_of, pool_before};
+    ghost use Rattle.pd_restoring.specs.Made.{IsMade};
     ghost use Rattle.pd_shrink.specs.Failing.{CountsPlanning, CountsWriting};
+    ghost use Rattle.pd_shrink.specs.Kept.{kept_pool, moved_in, shared_of};
     ghost use Rattle.pd_shrink.specs.Making.{FitsDevice, Finishes, IsSoundPool, IsSoundWith};
     ghost use Rattle.pd_shrink.specs.Moves.{AreOnce, IsAcross, IsLeftKept, moves_in};
     ghost use Rattle.pd_shrink.specs.Moving.{AreMovesOf};
-    ghost use Rattle.pd_shrink.specs.Planned.{IsPlanOf, Plans, ending_of_written};
+    ghost use Rattle.pd_shrink.specs.Planned.{IsPlanOf, Plans, content_after, ending_of_written};
 
     /// Makes the plan of the shrink of a pool to so many data blocks, with an output for its new metadata and its data device.
     /// It writes nothing.
@@ -76,7 +75,51 @@ impl Shrink {
         requires output { IsAttached (B.state output.now) }
         requires pool { IsAttached (C.state pool.now) }
         requires sound { IfSome (A.state meta.old).held (λ image. faults Thin Counts image ≡ []) }
-        ensures plans { Plans (A.state meta.old).held (B.state output.now).blocks (C.state pool.now).blocks blocks result }
+        ensures plans { Plans false (A.state meta.old).held (B.state output.now).blocks (C.state pool.now).blocks blocks result }
+        ensures kept { OnlyReads (A.state meta.old) (A.state meta.new) }
+        ensures faults { CountsPlanning result (A.state meta.old).faults (A.state meta.new).faults }
+    {
+        let output_blocks = output.blocks();
+        let pool_blocks = pool.blocks();
+        Shrink::plan_with(alloc, meta, false, output_blocks, pool_blocks, blocks)
+    }
+
+    /// Makes the plan of the shrink of a pool that keeps the leaves which its devices share: each moved block is named by its
+    /// new place in the one leaf that it stands in. It writes nothing.
+    ///
+    /// Fails as `plan`, with the need of the metadata that keep the shared leaves.
+    pub fn plan_shared<A: Device, B: Device, C: Device>(
+        alloc: Global,
+        meta: &mut A,
+        output: &B,
+        pool: &C,
+        blocks: u64,
+    ) -> Result<Shrink, ShrinkFault>
+        requires meta { IsAttached (A.state meta.old) }
+        requires output { IsAttached (B.state output.now) }
+        requires pool { IsAttached (C.state pool.now) }
+        requires sound { IfSome (A.state meta.old).held (λ image. faults Thin Counts image ≡ []) }
+        ensures plans { Plans true (A.state meta.old).held (B.state output.now).blocks (C.state pool.now).blocks blocks result }
+        ensures kept { OnlyReads (A.state meta.old) (A.state meta.new) }
+        ensures faults { CountsPlanning result (A.state meta.old).faults (A.state meta.new).faults }
+    {
+        let output_blocks = output.blocks();
+        let pool_blocks = pool.blocks();
+        Shrink::plan_with(alloc, meta, true, output_blocks, pool_blocks, blocks)
+    }
+
+    /// Makes the plan with the shared leaves or without, with so many blocks of the output and of the data device.
+    fn plan_with<A: Device>(
+        alloc: Global,
+        meta: &mut A,
+        shared: bool,
+        output_blocks: u64,
+        pool_blocks: u64,
+        blocks: u64,
+    ) -> Result<Shrink, ShrinkFault>
+        requires meta { IsAttached (A.state meta.old) }
+        requires sound { IfSome (A.state meta.old).held (λ image. faults Thin Counts image ≡ []) }
+        ensures plans { Plans shared (A.state meta.old).held output_blocks pool_blocks blocks result }
         ensures kept { OnlyReads (A.state meta.old) (A.state meta.new) }
         ensures faults { CountsPlanning result (A.state meta.old).faults (A.state meta.new).faults }
     {
@@ -89,9 +132,7 @@ impl Shrink {
             Some(s) => s,
             None => return Err(ShrinkFault::BlockSize),
         };
-        let output_blocks = output.blocks();
-        let pool_blocks = pool.blocks();
-        Shrink::with_super(alloc, meta, &s, output_blocks, pool_blocks, blocks)
+        Shrink::with_super(alloc, meta, &s, shared, output_blocks, pool_blocks, blocks)
     }
 
     /// Makes the plan over metadata with this superblock, with so many blocks of the output and of the data device.
@@ -99,6 +140,7 @@ impl Shrink {
         alloc: Global,
         meta: &mut A,
         s: &ThinSuper,
+        shared: bool,
         output_blocks: u64,
         pool_blocks: u64,
         blocks: u64,
@@ -106,16 +148,16 @@ impl Shrink {
         requires meta { IsAttached (A.state meta.old) }
         requires fits { FitsDevice (A.state meta.old).blocks s.now }
         requires sound { IfSome (A.state meta.old).held (IsSoundWith s.now) }
-        ensures plans { Plans (A.state meta.old).held output_blocks pool_blocks blocks result }
+        ensures plans { Plans shared (A.state meta.old).held output_blocks pool_blocks blocks result }
         ensures kept { OnlyReads (A.state meta.old) (A.state meta.new) }
         ensures faults { CountsPlanning result (A.state meta.old).faults (A.state meta.new).faults }
     {
         if is_block_size_bad(s.block_size) {
             return Err(ShrinkFault::BlockSize);
         }
-        let saved = read_pool(alloc, meta, s)?;
+        let kept = read_kept(alloc, meta, s, shared)?;
         let map = &s.data_map;
-        Shrink::of_pool(alloc, meta, map, &saved, output_blocks, pool_blocks, blocks)
+        Shrink::of_pool(alloc, meta, map, &kept, output_blocks, pool_blocks, blocks)
     }
 
     /// Makes the plan of this pool, whose data blocks have this space map.
@@ -123,7 +165,7 @@ impl Shrink {
         alloc: Global,
         meta: &mut A,
         map: &SmRoot,
-        saved: &Salvage,
+        kept: &Kept,
         output_blocks: u64,
         pool_blocks: u64,
         blocks: u64,
@@ -131,43 +173,43 @@ impl Shrink {
         requires meta { IsAttached (A.state meta.old) }
         requires index { map.now.bitmap_root < (A.state meta.old).blocks }
         requires overflow { map.now.overflow_root < (A.state meta.old).blocks }
-        requires sound { IfSome (A.state meta.old).held (IsSoundPool map.now (pool_of saved.now)) }
-        ensures plans { Plans (A.state meta.old).held output_blocks pool_blocks blocks result }
+        requires sound { IfSome (A.state meta.old).held (IsSoundPool map.now kept.now) }
+        ensures plans { Plans (shared_of kept.now) (A.state meta.old).held output_blocks pool_blocks blocks result }
         ensures kept { OnlyReads (A.state meta.old) (A.state meta.new) }
         ensures faults { CountsPlanning result (A.state meta.old).faults (A.state meta.new).faults }
     {
-        let head = saved.head();
+        let head = head_of(kept);
         // The superblock's block size was looked at; that of a pool in memory is another only over a device that tells nothing.
         if is_block_size_bad(head.block_size) {
             return Err(ShrinkFault::BlockSize);
         }
         let each = (head.block_size / 8) as u64;
         let end = blocks.min(head.blocks);
-        let moves = find_moves(alloc, meta, map, saved, end, each, pool_blocks)?;
-        Shrink::finish(alloc, saved, moves, end, each, output_blocks, pool_blocks)
+        let moves = find_moves(alloc, meta, map, kept, end, each, pool_blocks)?;
+        Shrink::finish(alloc, kept, moves, end, each, output_blocks, pool_blocks)
     }
 
     /// Makes the plan of these moves.
     fn finish(
         alloc: Global,
-        saved: &Salvage,
+        kept: &Kept,
         moves: Vec<MovedBlock>,
         end: u64,
         each: u64,
         output_blocks: u64,
         pool_blocks: u64,
     ) -> Result<Shrink, ShrinkFault>
-        requires moves { AreMovesOf (pool_of saved.now) end (moves_in moves.items) }
+        requires moves { AreMovesOf (kept_pool kept.now) end (moves_in moves.items) }
         requires across { AllByRecursion (IsAcross each pool_blocks end) moves.items }
         requires once { AreOnce moves.items }
-        ensures { Finishes (moved_pool (pool_of saved.now) end (moves_in moves.items)) moves.items each output_blocks pool_blocks result }
+        ensures { Finishes (shared_of kept.now) (moved_in kept.now end (moves_in moves.items)) moves.items each output_blocks pool_blocks result }
     {
-        let moved = match move_pool(alloc, saved, end, moves.as_slice()) {
+        let moved = match move_kept(alloc, kept, end, moves.as_slice()) {
             Ok(moved) => moved,
             Err(_) => return Err(ShrinkFault::Memory),
         };
         let room = output_blocks.min(MAX_META_BLOCKS);
-        let need = match need_of_saved(alloc, &moved, room) {
+        let need = match need_of_kept(alloc, &moved, room) {
             Some(need) => need,
             None => return Err(ShrinkFault::Memory),
         };
@@ -192,13 +234,13 @@ impl Shrink {
     pub fn copy<C: Device>(&self, pool: &mut C) -> Result<u64, Failed>
         requires writable { IsWritable (C.state pool.old) }
         requires blocks { (C.state pool.old).blocks ≡ self.now.pool_blocks }
-        ensures count { IfOk result (λ n. (basis : ShrinkGround) → IsPlanOf basis self.now → lack_of basis ≡ None → n ≡ length (sources basis.pool basis.end)) }
-        ensures copied { OnOk result ((basis : ShrinkGround) (held : List (List ℕ)) → IsPlanOf basis self.now → HoldsSynced held (C.state pool.old)
-            → HoldsSynced (data_after (blocks_each basis.pool.block_size) (moves_of basis) held) (C.state pool.new)) }
+        ensures count { IfOk result (λ n. (is_shared : Bool) (basis : ShrinkGround is_shared) → IsPlanOf basis self.now → lack_of basis ≡ None → n ≡ length (sources (pool_before basis) basis.end)) }
+        ensures copied { OnOk result ((is_shared : Bool) (basis : ShrinkGround is_shared) (held : List (List ℕ)) → IsPlanOf basis self.now → HoldsSynced held (C.state pool.old)
+            → HoldsSynced (data_after (blocks_each (pool_before basis).block_size) (moves_of basis) held) (C.state pool.new)) }
 
         // Where nothing was unsynced, a crash at any moment leaves the data device as it was but for the targets.
-        ensures crash { (basis : ShrinkGround) (held : List (List ℕ)) → IsPlanOf basis self.now → HoldsSynced held (C.state pool.old)
-            → LeavesOnly (IsLeftKept (blocks_each basis.pool.block_size) (map copy_of_move (moves_of basis)) held) (C.state pool.old) (C.state pool.new) }
+        ensures crash { (is_shared : Bool) (basis : ShrinkGround is_shared) (held : List (List ℕ)) → IsPlanOf basis self.now → HoldsSynced held (C.state pool.old)
+            → LeavesOnly (IsLeftKept (blocks_each (pool_before basis).block_size) (map copy_of_move (moves_of basis)) held) (C.state pool.old) (C.state pool.new) }
         ensures told { StillTells (C.state pool.old) (C.state pool.new) }
         ensures cold { moves_in self.now.moves.items ≡ [] → IsUntouched (C.state pool.old) (C.state pool.new) }
         ensures place { KeepsPlace (C.state pool.old) (C.state pool.new) }
@@ -218,7 +260,7 @@ impl Shrink {
     pub fn write<B: Device>(self, alloc: Global, output: &mut B) -> Result<(), ShrinkFault>
         requires writable { IsWritable (B.state output.old) }
         requires blocks { (B.state output.old).blocks ≡ self.output_blocks }
-        ensures made { (basis : ShrinkGround) → IsPlanOf basis self → IsMadeOf (pool_after basis) (ending_of_written result) (B.state output.old) (B.state output.new) }
+        ensures made { (is_shared : Bool) (basis : ShrinkGround is_shared) → IsPlanOf basis self → IsMade (content_after basis) (ending_of_written result) (B.state output.old) (B.state output.new) }
         ensures place { KeepsPlace (B.state output.old) (B.state output.new) }
         ensures faults { CountsWriting result (B.state output.old).faults (B.state output.new).faults }
     {
@@ -229,7 +271,7 @@ impl Shrink {
             output_blocks: _,
             pool_blocks: _,
         } = self;
-        match restore_made(alloc, moved, output) {
+        match restore_kept(alloc, moved, output) {
             Ok(()) => Ok(()),
             Err(fault) => match fault {
                 MadeFault::Memory => Err(ShrinkFault::Memory),

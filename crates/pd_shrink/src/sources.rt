@@ -3,11 +3,11 @@
 ghost use Rattle.std.specs.Prelude.{◌≡◌, ◌+◌, ◌^◌, ◌<◌, ◌++◌, All, IfOk, OnOk};
 ghost use Rattle.std.specs.List.Sorted.{IsNonDecreasingBy, IsPermutation};
 ghost use Rattle.pd_answers.specs.MovedPool.{sources};
-ghost use Rattle.pd_salvage.specs.Saved.{pool_of};
 ghost use Rattle.pd_thin_meaning.specs.declared.joined.Run.{Run as SavedRun};
+ghost use Rattle.pd_shrink.specs.Kept.{kept_pool};
 ghost use Rattle.pd_shrink.specs.Spans.{blocks_between, span_between, spans_past, union_from};
 
-use pd_salvage::Salvage;
+use crate::kept::{Kept, head_of, leaf_runs_of, own_runs_of};
 use pd_thin_meaning::Run;
 use std::alloc::{AllocError, Global};
 
@@ -20,30 +20,32 @@ struct Span {
     stop: u64,
 }
 
-/// The data blocks of a pool's mappings that aren't below `end`, ascending, each once.
+/// The data blocks of a pool's mappings that aren't below `end`, ascending, each once. Those of a shared leaf are looked at
+/// once.
 ///
 /// It takes 16 bytes for each run that reaches past the end, and 8 for each such block.
-pub fn find_sources(alloc: Global, saved: &Salvage, end: u64) -> Result<Vec<u64>, AllocError>
-    ensures { IfOk result (λ found. found.items ≡ sources (pool_of saved.now) end) }
+pub(crate) fn find_sources(alloc: Global, kept: &Kept, end: u64) -> Result<Vec<u64>, AllocError>
+    ensures { IfOk result (λ found. found.items ≡ sources (kept_pool kept.now) end) }
 {
-    // What was saved is a lawful pool, so each run ends within it.
-    let _head = saved.head();
-    let mut spans = find_spans(alloc, saved.runs(), end)?;
+    // What is held is a lawful pool, so each run ends within it.
+    let _head = head_of(kept);
+    let mut spans = Vec::new(alloc);
+    add_spans(&mut spans, leaf_runs_of(kept), end)?;
+    add_spans(&mut spans, own_runs_of(kept), end)?;
     sort_spans(&mut spans);
     blocks_of(alloc, &spans)
 }
 
-/// What the runs have past the end.
-fn find_spans(alloc: Global, runs: &[Run], end: u64) -> Result<Vec<Span>, AllocError>
+/// Adds what the runs have past the end.
+fn add_spans(spans: &mut Vec<Span>, runs: &[Run], end: u64) -> Result<(), AllocError>
     requires { All (λ (r : SavedRun). r.target + r.length < 2 ^ 64) runs.now }
-    ensures { IfOk result (λ spans. spans.items ≡ spans_past end runs.now) }
+    ensures { OnOk result (spans.new.items ≡ spans.old.items ++ spans_past end runs.now) }
 {
-    let mut spans = Vec::new(alloc);
     for run in runs {
         let stop = run.target + run.length;
-        add_span(&mut spans, run.target.max(end), stop)?;
+        add_span(spans, run.target.max(end), stop)?;
     }
-    Ok(spans)
+    Ok(())
 }
 
 /// Adds the blocks from one to below another, where there are any.

@@ -1,19 +1,26 @@
-use Rattle.std.proofs.Common.{ap, ◌∙◌}
+use Rattle.std.proofs.Common.{◌++◌, List, ap, ◌∙◌}
 use Rattle.std.proofs.lemmas.Result.{IfOk-weaker}
 use Rattle.pd_shrink.specs.Spans.{spans_past, union_from}
-use Rattle.pd_shrink.proofs.SpanLemmas.{runs_fit, sources_are}
+use Rattle.pd_shrink.specs.declared.sources.Span.{Span}
+use Rattle.pd_shrink.proofs.SpanLemmas.{leaf_runs_small, own_runs_small, sources_kept}
 use Rattle.pd_shrink.proofs.sources.find_sources.Goals as goal
 
-pub find_spans-requires : goal.find_spans-requires
-find_spans-requires c = rw c.runs.ensures (runs_fit c.args.saved.now c.head-head.ensures.sound)
+pub add_spans-requires : goal.add_spans-requires
+add_spans-requires c = rw c.leaf_runs_of.ensures (leaf_runs_small c.args.kept.now c.head_of-head.ensures.sound)
+
+pub add_spans-requires-2 : goal.add_spans-requires-2
+add_spans-requires-2 c = rw c.own_runs_of.ensures (own_runs_small c.args.kept.now c.head_of-head.ensures.sound)
 
 pub returns : goal.returns
 returns c =
+    let some = c.add_spans.new.spans.items in
+    let all = c.add_spans-2.new.spans.items in
     let sorted = c.sort_spans.new.spans.items in
     IfOk-weaker c.blocks_of.result _ _
     (λ found is.
     is
     ∙ (ap (union_from 0) c.deref.ensures.value
-    ∙ sources_are c.args.saved.now c.args.end c.in_ok-spans.spans.items sorted c.head-head.ensures.sound (c.in_ok-spans.ensures ∙ ap (spans_past c.args.end) c.runs.ensures)
+    ∙ sources_kept c.args.kept.now c.args.end some all sorted c.head_of-head.ensures.sound ((rw c.new-spans.ensures.items at c.in_ok-add_spans.ensures) ∙ ap (spans_past c.args.end) c.leaf_runs_of.ensures)
+    (c.in_ok-add_spans-2.ensures ∙ ap (λ runs. some ++ spans_past c.args.end runs) c.own_runs_of.ensures)
     c.sort_spans.ensures.same c.sort_spans.ensures.sorted))
     c.blocks_of.ensures

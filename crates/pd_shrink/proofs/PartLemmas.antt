@@ -1,0 +1,135 @@
+-- Parts of a pool with their runs, whose data blocks are moved one part after another.
+use Rattle.std.proofs.Common.{◌≡◌, ℕ, suc, ◌+◌, ◌<◌, ◌≤◌, get_or, List, [], ◌∷◌, ◌++◌, length, map, take, drop, drop-cons, add-one, refl, ap, sym, subst, ◌∙◌, arith, append_assoc, length-drop}
+use Rattle.std.specs.List.{AllByRecursion}
+use Rattle.std.specs.Prelude.{sum_by}
+use Rattle.std.proofs.lemmas.List.{append-nil, drop-append-le, drop_all, length-append, length-take, map-append, nil_from_length, take-append-le, take_all}
+use Rattle.std.proofs.lemmas.List.Sums.{sum_by-append, sum_by-cons}
+use Rattle.pd_kinds.specs.Meaning.{Mapping}
+use Rattle.pd_answers.specs.MovedPool.{Move, moved_mapping}
+use Rattle.pd_laws.proofs.AllLemmas.{all_append}
+use Rattle.pd_spells.specs.ThinText.{joined_runs}
+use Rattle.pd_thin_meaning.specs.declared.joined.Run.{Run}
+use Rattle.pd_thin_meaning.specs.Joined.{spelled}
+use Rattle.pd_salvage.specs.Gather.{HasRuns, mappings_of_runs}
+use Rattle.pd_shrink.specs.Moving.{AddsPart, AreJoined, ArePartsMoved, FitsRun, moved_mappings, split_mappings, split_runs}
+use Rattle.pd_shrink.proofs.MovingLemmas.{left_fit}
+
+-- a front of so many runs has so many
+pub front_number : (mine left : List Run) (n : ℕ) → mine ≡ take n left → n ≤ length left → length mine ≡ n
+front_number mine left n is few = rw is (omega (arith, length-take n left))
+
+-- what a loop over parts keeps: those that were moved and those that are left are all
+pub record MovesParts {T K : Type 0} (count : T → ℕ) (says : T → K) (moves : List Move) (all : List T) (all_runs : List Run) (parts : List T) (runs : List Run) (made : List T) (given : List Run) : Type 0 where
+  pub same : map says made ++ map says parts ≡ map says all
+  pub moved : split_mappings count made given ++ moved_mappings moves (split_mappings count parts runs) ≡ moved_mappings moves (split_mappings count all all_runs)
+  pub joined : AllByRecursion AreJoined (split_runs count made given)
+  pub number : sum_by count made ≡ length given
+  pub left : sum_by count parts ≡ length runs
+  pub fits : AllByRecursion FitsRun runs
+
+module _ {T K : Type 0} (count : T → ℕ) (says : T → K) where
+  -- the runs behind those of the first part are those of the others
+  pub parts_rest : (x : T) (xs : List T) (runs : List Run) → sum_by count (x ∷ xs) ≡ length runs → sum_by count xs ≡ length (drop (count x) runs)
+  parts_rest x xs runs number = omega (arith, number, sum_by-cons count x xs, length-drop (count x) runs)
+
+  -- the next part has its runs
+  pub part_left : (xs : List T) (i n : ℕ) (d : T) → i < length xs → sum_by count (drop i xs) ≡ n → count (get_or xs i d) ≤ n
+  part_left xs i n d within left =
+      let there = ap (sum_by count) (drop-cons xs i d within) in
+      omega (arith, there, left, sum_by-cons count (get_or xs i d) (drop (suc i) xs))
+
+  -- the runs by parts, with one part more
+  split_more : (made : List T) (y : T) (given more : List Run) → sum_by count made ≡ length given → count y ≡ length more
+      → split_runs count (made ++ y ∷ []) (given ++ more) ≡ split_runs count made given ++ more ∷ []
+  split_more [] y given more number size =
+      rw (nil_from_length given (sym number)) (ap (λ (runs : List Run). runs ∷ []) (take_all (count y) more (let all : length more ≤ count y = omega arith in all)))
+  split_more (x ∷ made) y given more number size =
+      let whole = sum_by-cons count x made in
+      let first : count x ≤ length given = omega arith in
+      rw (take-append-le (count x) given more first, drop-append-le (count x) given more first)
+      (ap (λ (parts : List (List Run)). take (count x) given ∷ parts) (split_more made y (drop (count x) given) more (parts_rest x made given number) size))
+
+  -- a part was added: with runs of its own, or without
+  pub adds_part : (moves : List Move) (part made : T) (mine : List Run) (parts parts' : List T) (before after : List Run)
+      (has : HasRuns before after (map (moved_mapping moves) (mappings_of_runs mine))) → count made ≡ length has.given → says made ≡ says part → parts' ≡ parts ++ made ∷ []
+      → AddsPart count says moves part mine parts before parts' after
+  adds_part moves part made mine parts parts' before after has number same added = record {
+    made = made;
+    given = has.given;
+    parts_are = added;
+    runs_are = has.runs_are;
+    number = number;
+    same = same;
+    moved = sym has.written;
+    joined = subst (λ (ms : List Mapping). joined_runs ms ≡ map spelled has.given) has.written has.joined;
+  }
+
+  pub adds_use : (moves : List Move) (part : T) (mine : List Run) (parts parts' : List T) (before : List Run) → count part ≡ 0 → length mine ≡ count part → parts' ≡ parts ++ part ∷ []
+      → AddsPart count says moves part mine parts before parts' before
+  adds_use moves part mine parts parts' before none number added = record {
+    made = part;
+    given = [];
+    parts_are = added;
+    runs_are = sym (append-nil before);
+    number = none;
+    same = refl;
+    moved = rw (nil_from_length mine (number ∙ none)) refl;
+    joined = refl;
+  }
+
+module _ {T K : Type 0} (count : T → ℕ) (says : T → K) (moves : List Move) (all : List T) (all_runs : List Run) where
+  -- one part more
+  module _ (x : T) (xs : List T) (runs : List Run) (made made' : List T) (given given' : List Run) (is : MovesParts count says moves all all_runs (x ∷ xs) runs made given)
+      (adds : AddsPart count says moves x (take (count x) runs) made given made' given') where
+    abbrev rest : List (List Mapping)
+    rest = moved_mappings moves (split_mappings count xs (drop (count x) runs))
+
+    parts_are : split_runs count made' given' ≡ split_runs count made given ++ adds.given ∷ []
+    parts_are = rw (adds.parts_are, adds.runs_are) (split_more count says made adds.made given adds.given is.number adds.number)
+
+    numbers : length (given ++ adds.given) ≡ length given + length adds.given → sum_by count made + sum_by count (adds.made ∷ []) ≡ length (given ++ adds.given)
+    numbers both = let before = is.number in let one = adds.number in let alone = sum_by-cons count adds.made [] in omega arith
+
+    moves_part : MovesParts count says moves all all_runs xs (drop (count x) runs) made' given'
+    moves_part = record {
+      same =
+          ap (λ (ys : List T). map says ys ++ map says xs) adds.parts_are
+          ∙ (ap (λ (ks : List K). ks ++ map says xs) (map-append says made (adds.made ∷ []))
+          ∙ (append_assoc (map says made) (says adds.made ∷ []) (map says xs)
+          ∙ (ap (λ (k : K). map says made ++ k ∷ map says xs) adds.same ∙ is.same)));
+      moved =
+          ap (λ (parts : List (List Run)). map mappings_of_runs parts ++ rest) parts_are
+          ∙ (ap (λ (parts : List (List Mapping)). parts ++ rest) (map-append mappings_of_runs (split_runs count made given) (adds.given ∷ []))
+          ∙ (append_assoc (split_mappings count made given) (mappings_of_runs adds.given ∷ []) rest
+          ∙ (ap (λ (ms : List Mapping). split_mappings count made given ++ ms ∷ rest) adds.moved ∙ is.moved)));
+      joined = subst (AllByRecursion AreJoined) (sym parts_are) (all_append AreJoined (split_runs count made given) (adds.given ∷ []) is.joined (adds.joined, tt));
+      number = rw (adds.parts_are, adds.runs_are) (sum_by-append count made (adds.made ∷ []) ∙ numbers (length-append given adds.given));
+      left = parts_rest count says x xs runs is.left;
+      fits = left_fit (count x) runs is.fits;
+    }
+
+  pub parts_next : (i : ℕ) (d : T) (runs mine later : List Run) (made made' : List T) (given given' : List Run) → i < length all
+      → MovesParts count says moves all all_runs (drop i all) runs made given → mine ≡ take (count (get_or all i d)) runs → later ≡ drop (count (get_or all i d)) runs
+      → AddsPart count says moves (get_or all i d) mine made given made' given' → MovesParts count says moves all all_runs (drop (i + 1) all) later made' given'
+  parts_next i d runs mine later made made' given given' within is mine_is later_is adds =
+      let there = drop-cons all i d within in
+      let now = rw there at is in
+      let added = rw mine_is at adds in
+      rw (later_is, add-one i) (moves_part (get_or all i d) (drop (suc i) all) runs made made' given given' now added)
+
+  -- none yet, and all of them
+  pub parts_begun : sum_by count all ≡ length all_runs → AllByRecursion FitsRun all_runs → MovesParts count says moves all all_runs all all_runs [] []
+  parts_begun number fits = record { same = refl; moved = refl; joined = tt; number = refl; left = number; fits = fits }
+
+  pub parts_all : (i : ℕ) (runs : List Run) (made : List T) (given : List Run) → length all ≤ i → MovesParts count says moves all all_runs (drop i all) runs made given
+      → ArePartsMoved count says moves all all_runs made given
+  parts_all i runs made given done is =
+      let none = drop_all i all done in
+      let same = rw none at is.same in
+      let moved = rw none at is.moved in
+      record {
+        same = sym (append-nil (map says made)) ∙ same;
+        moved = sym (append-nil (split_mappings count made given)) ∙ moved;
+        joined = is.joined;
+        number = is.number;
+      }

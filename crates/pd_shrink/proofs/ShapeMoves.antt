@@ -1,0 +1,169 @@
+-- The shape whose data blocks were moved, and that its runs and moves fit.
+use Rattle.std.proofs.Common.{◌≡◌, ℕ, ◌+◌, ◌^◌, ◌≤◌, List, [], ◌∷◌, ◌++◌, length, map, take, drop, refl, ap, ap₂, sym, subst, ◌∙◌, arith, length-drop, Option}
+use Rattle.std.specs.List.{AllByRecursion, flat_map}
+use Rattle.std.specs.Prelude.{sum_by}
+use Rattle.std.proofs.lemmas.List.{length-map, nil_from_length, take-append-drop}
+use Rattle.std.proofs.lemmas.List.Sums.{sum_by-cons, sum_by-take-drop}
+use Rattle.pd_kinds.specs.Meaning.{Mapping}
+use Rattle.pd_laid.specs.Shape.{ShapeDevice, ThinShape, device_of, piece_mappings, pool_of, shared}
+use Rattle.pd_laws.proofs.AllLemmas.{all_append}
+use Rattle.pd_shapes.specs.PoolText.{IsLawfulShape}
+use Rattle.pd_shapes.specs.SharedText.{SharedPart, device_of_part, mappings_of_runs, piece_of_part}
+use Rattle.pd_shapes.proofs.LeafRuns.{IsLeaf}
+use Rattle.pd_shapes.proofs.UsedLeaves.{are_leaves}
+use Rattle.pd_spells.specs.Lawful.{AreDevices, AreMappings}
+use Rattle.pd_answers.specs.MovedPool.{Move, moves_to, sources}
+use Rattle.pd_answers.specs.MovedShape.{moved_piece, moved_shape, moved_shape_device}
+use Rattle.pd_changed.specs.Moving.{IsMoving}
+use Rattle.pd_thin_meaning.specs.declared.joined.Run.{Run}
+use Rattle.pd_thin_meaning.specs.Joined.{spelled}
+use Rattle.pd_salvage.specs.declared.saved.SavedHead.{SavedHead}
+use Rattle.pd_salvage.specs.declared.saved_shape.SavedLeaf.{SavedLeaf}
+use Rattle.pd_salvage.specs.declared.saved_shape.SavedPiece.{SavedPiece}
+use Rattle.pd_salvage.specs.declared.saved_shape.SavedPiece.TheVariants.{Own, Shared}
+use Rattle.pd_salvage.specs.declared.saved_shape.ShapedDevice.{ShapedDevice}
+use Rattle.pd_salvage.specs.SavedShape.{HeldShape, IsPartJoined, IsSavedShape, device_parts, held, held_shape, leaf_parts, piece_parts, runs_of_piece, runs_of_pieces}
+use Rattle.pd_restore.proofs.ShapeNeedLemmas.{take_front}
+use Rattle.pd_restore.proofs.ShapeTextLemmas.{leaves_have}
+use Rattle.pd_shrink.specs.declared.moving_shapes.MovedLeaves.{MovedLeaves}
+use Rattle.pd_shrink.specs.declared.moving_shapes.MovedPieces.{MovedPieces}
+use Rattle.pd_shrink.specs.Moving.{AreLeavesMoved, AreMovesFrom, AreMovesOf, ArePiecesMoved, FitsRun, entries_of_leaf, head_to, leaf_of_piece, moved_mappings, runs_of_leaf, split_mappings}
+use Rattle.pd_shrink.proofs.MovesLemmas.{moves_are_ordered, part_fits}
+use Rattle.pd_shrink.proofs.ShapeParts.{devices_are, devices_joined, devices_moved, leaves_are, leaves_count, leaves_counted, leaves_joined, pieces_are, pieces_by, pieces_joined, pieces_moved, sizes, sizes_stay}
+
+-- the runs of leaves that are lawful fit
+leaves_fit : (blocks : ℕ) (leaves : List SavedLeaf) (runs : List Run) → blocks ≤ 2 ^ 40 → sum_by runs_of_leaf leaves ≡ length runs → AllByRecursion (IsLeaf blocks) (leaf_parts leaves runs)
+    → AllByRecursion FitsRun runs
+leaves_fit blocks [] runs few number are = rw (nil_from_length runs (sym number)) tt
+leaves_fit blocks (leaf ∷ leaves) runs few number are =
+    subst (AllByRecursion FitsRun) (take-append-drop leaf.runs runs)
+    (all_append FitsRun (take leaf.runs runs) (drop leaf.runs runs) (part_fits blocks 0 (take leaf.runs runs) few are.0.mappings)
+    (leaves_fit blocks leaves (drop leaf.runs runs) few (omega (arith, number, sum_by-cons runs_of_leaf leaf leaves, length-drop leaf.runs runs)) are.1))
+
+-- lawful mappings, in front and behind
+in_front : (blocks least : ℕ) (ms ns : List Mapping) → AreMappings blocks least (ms ++ ns) → AreMappings blocks least ms
+in_front blocks least [] ns are = tt
+in_front blocks least (m ∷ ms) ns are = (are.0, in_front blocks (m.virtual_block + 1) ms ns are.1)
+
+from_there : (blocks least : ℕ) (ms ns : List Mapping) → AreMappings blocks least (ms ++ ns) → (next : ℕ) × AreMappings blocks next ns
+from_there blocks least [] ns are = (least, are)
+from_there blocks least (m ∷ ms) ns are = from_there blocks (m.virtual_block + 1) ms ns are.1
+
+-- so do those of pieces
+pieces_fit : (blocks least : ℕ) (leaves : List (List Mapping)) (ps : List SavedPiece) (runs : List Run) → blocks ≤ 2 ^ 40
+    → AreMappings blocks least (flat_map (piece_mappings leaves) (map piece_of_part (piece_parts ps runs))) → AllByRecursion FitsRun (take (runs_of_pieces ps) runs)
+pieces_fit blocks least leaves [] runs few are = tt
+pieces_fit blocks least leaves (Own k ∷ ps) runs few are =
+    let mine = mappings_of_runs (map spelled (take k runs)) in
+    let others = flat_map (piece_mappings leaves) (map piece_of_part (piece_parts ps (drop k runs))) in
+    let later = from_there blocks least mine others are in
+    let all : take k runs ++ take (runs_of_pieces ps) (drop k runs) ≡ take (runs_of_pieces (Own k ∷ ps)) runs =
+    sym (take_front k (runs_of_pieces ps) runs) ∙ ap (λ (n : ℕ). take n runs) (sym (sum_by-cons runs_of_piece (Own k) ps)) in
+    subst (AllByRecursion FitsRun) all
+    (all_append FitsRun (take k runs) (take (runs_of_pieces ps) (drop k runs)) (part_fits blocks least (take k runs) few (in_front blocks least mine others are))
+    (pieces_fit blocks later.0 leaves ps (drop k runs) few later.1))
+pieces_fit blocks least leaves (Shared number ∷ ps) runs few are =
+    let others = flat_map (piece_mappings leaves) (map piece_of_part (piece_parts ps runs)) in
+    let later = from_there blocks least (piece_mappings leaves (shared number)) others are in
+    let same : runs_of_pieces ps ≡ runs_of_pieces (Shared number ∷ ps) = omega (arith, sum_by-cons runs_of_piece (Shared number) ps) in
+    subst (λ (n : ℕ). AllByRecursion FitsRun (take n runs)) same (pieces_fit blocks later.0 leaves ps runs few later.1)
+
+abbrev pieces_of : List ShapedDevice → ℕ
+pieces_of ds = sum_by (λ (d : ShapedDevice). d.pieces) ds
+
+devices_fit : (blocks least : ℕ) (leaves : List (List Mapping)) (ds : List ShapedDevice) (ps : List SavedPiece) (runs : List Run) → blocks ≤ 2 ^ 40 → pieces_of ds ≡ length ps
+    → runs_of_pieces ps ≡ length runs → AreDevices blocks least (map (device_of leaves) (map device_of_part (device_parts ds ps runs))) → AllByRecursion FitsRun runs
+devices_fit blocks least leaves [] ps runs few pieces number are =
+    let none : length runs ≡ 0 = sym number ∙ ap runs_of_pieces (nil_from_length ps (sym pieces)) in
+    rw (nil_from_length runs none) tt
+devices_fit blocks least leaves (d ∷ ds) ps runs few pieces number are =
+    let mine = take d.pieces ps in
+    let n = runs_of_pieces mine in
+    subst (AllByRecursion FitsRun) (take-append-drop n runs)
+    (all_append FitsRun (take n runs) (drop n runs) (pieces_fit blocks 0 leaves mine runs few are.0.mappings)
+    (devices_fit blocks (d.id + 1) leaves ds (drop d.pieces ps) (drop n runs) few
+    (omega (arith, pieces, sum_by-cons (λ (d : ShapedDevice). d.pieces) d ds, length-drop d.pieces ps))
+    (omega (arith, number, sum_by-take-drop runs_of_piece ps d.pieces, length-drop n runs)) are.1))
+
+module _ (saved : HeldShape) (sound : IsSavedShape saved) where
+  pub leaf_runs_fit : AllByRecursion FitsRun saved.leaf_runs
+  unfolding held_shape pool_of
+  leaf_runs_fit =
+      leaves_fit saved.head.blocks saved.leaves saved.leaf_runs sound.lawful.data_blocks_fit sound.leaf_number
+      (are_leaves (held_shape saved) (leaf_parts saved.leaves saved.leaf_runs) refl (leaves_have (leaf_parts saved.leaves saved.leaf_runs) sound.leaves_joined) sound.shape sound.lawful)
+
+  pub own_runs_fit : AllByRecursion FitsRun saved.runs
+  unfolding held_shape pool_of
+  own_runs_fit =
+      devices_fit saved.head.blocks 0 (held_shape saved).leaves saved.devices saved.pieces saved.runs sound.lawful.data_blocks_fit sound.piece_number sound.number sound.lawful.devices
+
+  module _ (end : ℕ) (moves : List Move) (are : AreMovesOf (pool_of (held_shape saved)) end moves) where
+    pub shape_moves_ordered : AreMovesFrom (2 ^ 40) end moves
+    shape_moves_ordered = moves_are_ordered (pool_of (held_shape saved)) sound.lawful end moves are
+
+    -- the moved leaves, pieces and runs are those of the smaller shape
+    module _ (old : SavedHead) (moved : MovedLeaves) (pieced : MovedPieces) (devices : List ShapedDevice) (head_is : old ≡ head_to saved.head end) (devices_are' : devices ≡ saved.devices)
+        (leaves : AreLeavesMoved moves saved.leaves saved.leaf_runs moved) (pieces : ArePiecesMoved moves saved.pieces saved.runs pieced) where
+      abbrev after : HeldShape
+      after = held old moved.leaves.items moved.runs.items devices pieced.pieces.items pieced.runs.items
+
+      leaves_after : map mappings_of_runs (leaf_parts moved.leaves.items moved.runs.items) ≡ moved_mappings moves (map mappings_of_runs (leaf_parts saved.leaves saved.leaf_runs))
+      leaves_after = leaves_are moved.leaves.items moved.runs.items ∙ (leaves.moved ∙ ap (moved_mappings moves) (sym (leaves_are saved.leaves saved.leaf_runs)))
+
+      pieces_after : map piece_of_part (piece_parts pieced.pieces.items pieced.runs.items) ≡ map (moved_piece moves) (map piece_of_part (piece_parts saved.pieces saved.runs))
+      pieces_after =
+          pieces_are pieced.pieces.items pieced.runs.items
+          ∙ (ap₂ pieces_by pieces.same pieces.moved
+          ∙ (pieces_moved moves (map leaf_of_piece saved.pieces) (split_mappings runs_of_piece saved.pieces saved.runs) ∙ ap (map (moved_piece moves)) (sym (pieces_are saved.pieces saved.runs))))
+
+      devices_after : map device_of_part (device_parts devices pieced.pieces.items pieced.runs.items) ≡ map (moved_shape_device moves) (map device_of_part (device_parts saved.devices saved.pieces saved.runs))
+      devices_after =
+          ap (λ (ds : List ShapedDevice). map device_of_part (device_parts ds pieced.pieces.items pieced.runs.items)) devices_are'
+          ∙ (ap (map device_of_part) (devices_are saved.devices pieced.pieces.items pieced.runs.items)
+          ∙ (devices_moved moves saved.devices (piece_parts saved.pieces saved.runs) (piece_parts pieced.pieces.items pieced.runs.items) pieces_after
+          ∙ ap (λ (parts : List SharedPart). map (moved_shape_device moves) (map device_of_part parts)) (sym (devices_are saved.devices saved.pieces saved.runs))))
+
+      -- a shape of this head
+      abbrev shape_with : SavedHead → List (List Mapping) → List ShapeDevice → ThinShape
+      shape_with head ls ds = record {
+        uuid = head.uuid;
+        time = head.time;
+        transaction = head.transaction;
+        block_size = head.block_size;
+        data_blocks = head.blocks;
+        leaves = ls;
+        devices = ds;
+      }
+
+      pub shape_after : held_shape after ≡ moved_shape (held_shape saved) end moves
+      unfolding held_shape moved_shape
+      shape_after =
+          ap (λ (head : SavedHead). shape_with head (map mappings_of_runs (leaf_parts moved.leaves.items moved.runs.items)) (map device_of_part (device_parts devices pieced.pieces.items pieced.runs.items))) head_is
+          ∙ ap₂ (shape_with (head_to saved.head end)) leaves_after devices_after
+
+      pub shape_sound : ((w : ThinShape) (end : ℕ) (free : List ℕ) → IsLawfulShape w → IsMoving (pool_of w) end free → IsLawfulShape (moved_shape w end (moves_to (sources (pool_of w) end) free)))
+          → IsSavedShape after
+      shape_sound law =
+          let w = held_shape saved in
+          let lawful = law w end are.free (record { shape = sound.shape; pool = sound.lawful }) are.moving in
+          let here : IsLawfulShape (held_shape after) =
+          subst IsLawfulShape (sym shape_after) (subst (λ (xs : List Move). IsLawfulShape (moved_shape w end xs)) (sym are.are) lawful) in
+          let counted : map entries_of_leaf moved.leaves.items ≡ sizes (split_mappings runs_of_leaf moved.leaves.items moved.runs.items) =
+          leaves.same
+          ∙ (leaves_count saved.leaves saved.leaf_runs sound.counted
+          ∙ (sym (sizes_stay moves (split_mappings runs_of_leaf saved.leaves saved.leaf_runs)) ∙ ap sizes (sym leaves.moved))) in
+          record {
+            shape = here.shape;
+            lawful = here.pool;
+            counted = leaves_counted moved.leaves.items moved.runs.items counted;
+            leaves_joined = leaves_joined moved.leaves.items moved.runs.items leaves.joined;
+            joined =
+                subst (AllByRecursion IsPartJoined) (sym (devices_are devices pieced.pieces.items pieced.runs.items))
+                (devices_joined devices (piece_parts pieced.pieces.items pieced.runs.items) (pieces_joined pieced.pieces.items pieced.runs.items pieces.joined));
+            leaf_number = leaves.number;
+            piece_number =
+                ap pieces_of devices_are'
+                ∙ (sound.piece_number
+                ∙ (sym (length-map saved.pieces leaf_of_piece) ∙ (ap (λ (xs : List (Option ℕ)). length xs) (sym pieces.same) ∙ length-map pieced.pieces.items leaf_of_piece)));
+            number = pieces.number;
+          }

@@ -1,6 +1,0 @@
-use Rattle.std.proofs.Common.{◌≡◌, take}
-use Rattle.pd_shrink.specs.Spans.{spans_past}
-use Rattle.pd_shrink.proofs.sources.find_spans.Given as goal
-
-abbrev pub invariant-loop-run : goal.invariant-loop-run
-invariant-loop-run l = l.spans.items ≡ spans_past l.end (take l.run-index l.runs)
