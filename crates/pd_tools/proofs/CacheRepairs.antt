@@ -1,5 +1,5 @@
 -- What the work of a cache's repair comes to, over plain variables.
-use Rattle.std.proofs.Common.{◌≡◌, ◌≢◌, inl, inr, ℕ, ◌≤◌, ◌<◌, true, false, nat_eq, IsTrue, List, [], length, Option, Some, None, IfSome, Result, Ok, Err, refl, sym, ap, ◌∙◌, subst, arith, lit≤}
+use Rattle.std.proofs.Common.{◌≡◌, ◌≢◌, inl, inr, ℕ, ◌≤◌, ◌<◌, true, false, nat_eq, IsTrue, List, [], length, Option, Some, None, IfSome, Result, Ok, Err, refl, sym, ap, ◌∙◌, subst, arith}
 use Rattle.std.specs.Prelude.{IfOk}
 use Rattle.std.proofs.lemmas.Bool.{cases_Bool, eqb-true}
 use Rattle.pd_kinds.specs.declared.kind.Kind.TheVariants.{Cache}
@@ -9,7 +9,7 @@ use Rattle.pd_kinds.specs.declared.rules.Rules.{Rules}
 use Rattle.pd_kinds.specs.Crash.{IsUntouched}
 use Rattle.pd_kinds.specs.Faults.{faults_at}
 use Rattle.pd_kinds.specs.Limits.{room_of}
-use Rattle.pd_kinds.specs.Objects.{DeviceState, SinkState, Rose}
+use Rattle.pd_kinds.specs.Objects.{SinkState, Rose}
 use Rattle.pd_kinds.specs.Report.{Reported, report_of}
 use Rattle.pd_kinds.specs.RuleSet.{has_rule}
 use Rattle.pd_kinds.specs.Stages.{faults}
@@ -37,7 +37,7 @@ use Rattle.pd_tools.specs.Opened.{AreOpened, Devices, devices_of}
 use Rattle.pd_tools.specs.Stop.{stop_status}
 use Rattle.pd_tools.specs.Task.{AreAlone, IsAtRest, IsDone, IsEnded, IsHalted, Works}
 use Rattle.pd_tools.specs.Work.{HasCause}
-use Rattle.pd_tools.proofs.Laying.{first_alone, first_done, first_failed, first_lacking, first_lost, first_spared}
+use Rattle.pd_tools.proofs.Laying.{first_alone, first_done, first_failed, first_lacking, first_lost}
 use Rattle.pd_tools.proofs.Queries.{one_told}
 use Rattle.pd_tools.proofs.Repairs.{answer_faulty, answer_made, answer_small, done_right, faulty_right, found_of, found_right, memory_right, memory_told, named_total, of_ending, output_right, report-told, report_in, room_right, saved_at_rest}
 use Rattle.pd_tools.proofs.Restores.{Image}

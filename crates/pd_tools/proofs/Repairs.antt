@@ -1,5 +1,5 @@
 -- What the work of a repair comes to, over plain variables.
-use Rattle.std.proofs.Common.{◌≡◌, ◌≢◌, inl, inr, ℕ, ◌≤◌, ◌<◌, Bool, false, not, nat_eq, IsTrue, List, [], ◌∷◌, length, Option, Some, None, IfSome, Result, Ok, Err, refl, sym, ap, ◌∙◌, subst, arith, lit≤}
+use Rattle.std.proofs.Common.{◌≡◌, ◌≢◌, inl, inr, ℕ, ◌≤◌, ◌<◌, Bool, false, not, nat_eq, IsTrue, List, [], ◌∷◌, length, Option, Some, None, IfSome, Result, Ok, Err, refl, sym, ap, subst, arith}
 use Rattle.std.specs.Prelude.{IfErr}
 use Rattle.std.specs.Option.{option_map_or}
 use Rattle.std.proofs.lemmas.Bool.{lt-ltb, le-ltb}
@@ -28,7 +28,7 @@ use Rattle.pd_answers.specs.Terms.{Terms, is_possible}
 use Rattle.pd_repair.specs.declared.fault.RepairFault.{RepairFault}
 use Rattle.pd_repair.specs.declared.fault.RepairFault.TheVariants as fault
 use Rattle.pd_repair.specs.Faults.{output_ending}
-use Rattle.pd_repair.specs.Repaired.{AnswersSuper, CountsRepair, IsOfFaults, IsRepairedAs, NamesRules}
+use Rattle.pd_repair.specs.Repaired.{AnswersSuper, CountsRepair, IsRepairedAs, NamesRules}
 use Rattle.pd_restoring.specs.Made.{AnswersEnding, Ending, IsEarly, IsOfOthers}
 use Rattle.pd_tools.specs.declared.stop.Stop.{Stop}
 use Rattle.pd_tools.specs.declared.stop.Stop.TheVariants.{Device, Memory}

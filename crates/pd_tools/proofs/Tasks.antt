@@ -1,11 +1,10 @@
 -- How the objects of a task stand at its end, by how it names them, and what its work comes to.
-use Rattle.std.proofs.Common.{◌≡◌, ◌≢◌, ◌⊎◌, inl, inr, ℕ, ◌≤◌, IsTrue, List, [], Option, Result, Ok, Err, refl, sym, ap, ◌∙◌, subst, arith, lit≤}
+use Rattle.std.proofs.Common.{◌≡◌, ◌≢◌, inl, inr, ℕ, ◌≤◌, IsTrue, List, [], Option, Result, Ok, Err, refl, sym, ap, ◌∙◌, subst, arith, lit≤}
 use Rattle.pd_kinds.specs.declared.kind.Kind.{Kind}
 use Rattle.pd_kinds.specs.declared.kind.Stage.{Stage}
 use Rattle.pd_kinds.specs.Objects.{AppendsFront, DeviceState, SinkState}
 use Rattle.pd_kinds.specs.Crash.{IsUntouched}
 use Rattle.pd_kinds.specs.Stages.{CanWantMemory}
-use Rattle.pd_image.specs.Device.{KeepsPlace, OnlyReads}
 use Rattle.pd_answers.specs.Answer.{Answer, AreFresh, IsNamed, IsOpen, IsUsed, Objects, Use, unused, reading, writing}
 use Rattle.pd_answers.specs.Terms.{AreOpen, Changes, IsKept, Terms, Uses, is_possible}
 use Rattle.pd_tools.specs.declared.ending.Ending.{Ending}

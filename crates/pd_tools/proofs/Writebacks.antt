@@ -1,5 +1,5 @@
 -- What the work of a writeback comes to, over plain variables.
-use Rattle.std.proofs.Common.{◌≡◌, ◌≢◌, ◌⊎◌, inl, inr, ℕ, ◌≤◌, ◌<◌, true, false, nat_eq, IsTrue, List, [], ◌∷◌, length, Option, Some, None, IfSome, Result, refl, sym, ap, ◌∙◌, subst, arith, lit≤}
+use Rattle.std.proofs.Common.{◌≡◌, ◌≢◌, ◌⊎◌, inl, inr, ℕ, ◌≤◌, ◌<◌, true, false, nat_eq, IsTrue, List, [], ◌∷◌, length, Option, Some, None, IfSome, Result, refl, sym, ap, ◌∙◌, subst, arith}
 use Rattle.std.specs.Prelude.{IsSome, slice_get}
 use Rattle.std.specs.Option.{is_some, option_map_or}
 use Rattle.std.specs.List.Sorted.{IsPermutation}

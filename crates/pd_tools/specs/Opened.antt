@@ -1,5 +1,5 @@
 -- What attaching the devices of a request does to them, by how it names them, and how they stand afterwards.
-use Rattle.std.specs.Prelude.{◌≡◌, ◌≢◌, ◌⊎◌}
+use Rattle.std.specs.Prelude.{◌≡◌, ◌⊎◌}
 use Rattle.pd_kinds.specs.Objects.{DeviceState, Rose}
 use Rattle.pd_kinds.specs.Crash.{IsUntouched}
 use Rattle.pd_image.specs.Device.{KeepsPlace, OnlyReads}

@@ -1,26 +1,25 @@
 -- What the moving and the writing of a shrink do to its three devices: the metadata, the output and the data device.
-use Rattle.std.specs.Prelude.{◌≡◌, ◌⊎◌, ℕ, List, [], map, Result, Ok, Err}
+use Rattle.std.specs.Prelude.{◌≡◌, ◌⊎◌, ℕ, Bool, List, [], map, Result, Ok, Err}
 use Rattle.pd_kinds.specs.Objects.{Rose}
 use Rattle.pd_kinds.specs.Crash.{HoldsSynced, IsUntouched, LeavesOnly, StillTells}
 use Rattle.pd_image.specs.Device.{KeepsPlace}
 use Rattle.pd_answers.specs.CachedView.{blocks_each}
 use Rattle.pd_answers.specs.MovedPool.{copy_of_move, data_after}
-use Rattle.pd_answers.specs.Shrinks.{ShrinkGround, moves_of, pool_after}
+use Rattle.pd_answers.specs.Shrinks.{ShrinkGround, moves_of, pool_before}
 use Rattle.pd_answers.specs.Writebacks.{KeepsOthers}
-use Rattle.pd_restore.specs.Made.{IsMadeOf}
-use Rattle.pd_restoring.specs.Made.{Ending, done, failed, lacking}
+use Rattle.pd_restoring.specs.Made.{Ending, IsMade, done, failed, lacking}
 use Rattle.pd_shrink.specs.declared.plan.Shrink.{Shrink}
 use Rattle.pd_shrink.specs.Moves.{moves_in}
-use Rattle.pd_shrink.specs.Planned.{IsPlanOf}
+use Rattle.pd_shrink.specs.Planned.{IsPlanOf, content_after}
 use Rattle.pd_tools.specs.declared.stop.Stop.{Stop}
 use Rattle.pd_tools.specs.declared.stop.Stop.TheVariants.{Device, Stream, Memory}
 use Rattle.pd_tools.specs.Opened.{Devices}
 
 -- the data device has all that the plan moves in its place, with nothing unsynced, and then the new metadata were written
 pub record HasMoved (shrink : Shrink) (ending : Ending) (old new : Devices) : Type 0 where
-  pub moved : (basis : ShrinkGround) (held : List (List ℕ)) → IsPlanOf basis shrink → HoldsSynced held old.third
-      → HoldsSynced (data_after (blocks_each basis.pool.block_size) (moves_of basis) held) new.third
-  pub made : (basis : ShrinkGround) → IsPlanOf basis shrink → IsMadeOf (pool_after basis) ending old.output new.output
+  pub moved : (shared : Bool) (basis : ShrinkGround shared) (held : List (List ℕ)) → IsPlanOf basis shrink → HoldsSynced held old.third
+      → HoldsSynced (data_after (blocks_each (pool_before basis).block_size) (moves_of basis) held) new.third
+  pub made : (shared : Bool) (basis : ShrinkGround shared) → IsPlanOf basis shrink → IsMade (content_after basis) ending old.output new.output
 
 -- the data device failed, and the output was left alone
 pub record FailsToMove (old new : Devices) : Type 0 where
@@ -42,8 +41,8 @@ GoesAsFar shrink (Err Stream) old new = ⊥
 
 -- what the moving and the writing of a plan leave, whatever their result
 pub record IsWritten (shrink : Shrink) (result : Result ℕ Stop) (old new : Devices) : Type 0 where
-  pub crash : (basis : ShrinkGround) (held : List (List ℕ)) → IsPlanOf basis shrink → HoldsSynced held old.third
-      → LeavesOnly (λ image firsts. KeepsOthers (blocks_each basis.pool.block_size) (map copy_of_move (moves_of basis)) held image) old.third new.third
+  pub crash : (shared : Bool) (basis : ShrinkGround shared) (held : List (List ℕ)) → IsPlanOf basis shrink → HoldsSynced held old.third
+      → LeavesOnly (λ image firsts. KeepsOthers (blocks_each (pool_before basis).block_size) (map copy_of_move (moves_of basis)) held image) old.third new.third
   pub told : StillTells old.third new.third
   pub cold : moves_in shrink.moves.items ≡ [] → IsUntouched old.third new.third
   pub goes_as_far : GoesAsFar shrink result old new

@@ -212,10 +212,12 @@ fn run_request<S: Source, K: Sink, E: Sink, A: Device, B: Device, C: Device>(
         Request::Shrink {
             input: from,
             output: to,
+            shared,
             pool,
             blocks,
         } => {
             let task = Shrinking {
+                shared,
                 from: from.word_in(words),
                 to: to.word_in(words),
                 pool: pool.word_in(words),

@@ -158,17 +158,17 @@ returns-in-Writeback g c others =
     (c.run_task-in-Writeback.ensures (record others { source = g.S.Source.state c.args.source.now })))
 
 -- so with the devices of a shrink
-shrunk_as_asked : (from to pool given_from given_to given_pool : List ℕ) (blocks : ℕ) (attached : SinkState) (before after : Objects) (status : ℕ)
+shrunk_as_asked : (shared : Bool) (from to pool given_from given_to given_pool : List ℕ) (blocks : ℕ) (attached : SinkState) (before after : Objects) (status : ℕ)
     → given_from ≡ from → given_to ≡ to → given_pool ≡ pool
-    → AnswersTerms (shrink given_from given_to given_pool blocks) attached before after status → AnswersTerms (shrink from to pool blocks) attached before after status
-shrunk_as_asked from to pool given_from given_to given_pool blocks attached before after status same_from same_to same_pool answers =
+    → AnswersTerms (shrink shared given_from given_to given_pool blocks) attached before after status → AnswersTerms (shrink shared from to pool blocks) attached before after status
+shrunk_as_asked shared from to pool given_from given_to given_pool blocks attached before after status same_from same_to same_pool answers =
     rw (same_from, same_to, same_pool) at answers
 
 pub returns-in-Shrink : goal.returns-in-Shrink
 returns-in-Shrink g c others =
     let words = map string_bytes c.args.words.now in
     let w = c.in-Shrink in
-    rw w.is (shrunk_as_asked (word_of words w.from) (word_of words w.to) (word_of words w.pool)
+    rw w.is (shrunk_as_asked w.shared (word_of words w.from) (word_of words w.to) (word_of words w.pool)
     c.word_in-in-Shrink.result.now c.word_in-in-Shrink-2.result.now c.word_in-in-Shrink-3.result.now w.blocks _ _ _ _
     c.word_in-in-Shrink.ensures c.word_in-in-Shrink-2.ensures c.word_in-in-Shrink-3.ensures
     (c.run_task-in-Shrink.ensures (record others { source = g.S.Source.state c.args.source.now })))

@@ -10,7 +10,7 @@ use Rattle.pd_tools.proofs.shrink.ShrinkingTask.work.Goals as goal
 
 pub returns-in_err-report-clause-works : goal.returns-in_err-report-clause-works
 returns-in_err-report-clause-works g c others notes first fresh was =
-    let stopped = shrink_unread c.args.self.now.from.now c.args.self.now.to.now c.args.self.now.pool.now c.args.self.now.blocks (record others { input = first.input; output = first.output; third = first.third })
+    let stopped = shrink_unread c.args.self.now.shared c.args.self.now.from.now c.args.self.now.to.now c.args.self.now.pool.now c.args.self.now.blocks (record others { input = first.input; output = first.output; third = first.third })
     (devices (g.A.Device.state c.args.input.now) (g.B.Device.state c.args.output.now) (g.C.Device.state c.args.third.now)) notes (g.A.Device.state c.check_attached.new.input) fresh was c.in_err-report.ensures.untouched
     (g.met.B.Device.measured c.args.output.now) (g.met.C.Device.measured c.args.third.now) c.in_err-report.field-0.0 c.in_err-report.ensures.stopped in
     search rules
@@ -18,7 +18,7 @@ returns-in_err-report-clause-works g c others notes first fresh was =
 pub returns-then-not-is_empty-clause-works : goal.returns-then-not-is_empty-clause-works
 returns-then-not-is_empty-clause-works g c others notes first fresh was =
     let faulty : c.is_empty.result ≡ false = first_of (search rules, grind (arith, nat_tests)) in
-    shrink_faulty c.args.self.now.from.now c.args.self.now.to.now c.args.self.now.pool.now c.args.self.now.blocks (record others { input = first.input; output = first.output; third = first.third })
+    shrink_faulty c.args.self.now.shared c.args.self.now.from.now c.args.self.now.to.now c.args.self.now.pool.now c.args.self.now.blocks (record others { input = first.input; output = first.output; third = first.third })
     (devices (g.A.Device.state c.args.input.now) (g.B.Device.state c.args.output.now) (g.C.Device.state c.args.third.now)) notes (g.A.Device.state c.check_attached.new.input) fresh was c.in_ok-report.ensures.untouched
     (g.met.B.Device.measured c.args.output.now) (g.met.C.Device.measured c.args.third.now) c.in_ok-report.report c.in_ok-report.ensures.report (sym c.is_empty.ensures ∙ faulty)
 
