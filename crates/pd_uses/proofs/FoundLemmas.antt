@@ -1,5 +1,5 @@
 -- What is found step by step, and that each note stays right.
-use Rattle.std.proofs.Common.{◌≡◌, ℕ, zero, suc, ◌-◌, ◌<◌, ◌≤◌, Bool, true, false, ◌||◌, List, [], ◌∷◌, ◌++◌, map, filter, length, Option, None, Some, IfSome, refl, sym, ap, ◌∙◌, ap₂, subst, append_assoc, arith, inl, inr, length-append}
+use Rattle.std.proofs.Common.{◌≡◌, ℕ, suc, ◌-◌, ◌<◌, ◌≤◌, Bool, true, false, ◌||◌, List, [], ◌∷◌, ◌++◌, map, filter, length, Option, None, Some, IfSome, refl, sym, ap, ◌∙◌, ap₂, subst, append_assoc, arith, inl, inr, length-append}
 use Rattle.std.specs.List.{AllByRecursion, flat_map}
 use Rattle.std.proofs.lemmas.Bool.{cases_Bool, cases_eq, cases_lt, or_parts, true≢false}
 use Rattle.std.proofs.lemmas.List.{append-nil, get_or_append_left, get_or_at, map-append}
@@ -17,10 +17,12 @@ use Rattle.pd_uses.specs.declared.found.Note.TheVariants.{Unknown, Bare, Hits}
 use Rattle.pd_uses.specs.declared.found.Visit.{Visit}
 use Rattle.pd_uses.specs.declared.hits.Hit.{Hit}
 use Rattle.pd_uses.specs.declared.hits.Region.{Region}
+use Rattle.pd_uses.specs.declared.parts.LeafPart.{LeafPart}
 use Rattle.pd_uses.specs.Descent.{FindsRows}
 use Rattle.pd_uses.specs.FoundUses.{Closes, Finds, HasLeaf, HasNote, HasVisit, IsNote, IsRight, found_uses, leaf_at, note_at, visit_uses, visits_uses}
 use Rattle.pd_uses.specs.Hits.{hits_below, hits_each, hits_in, is_hit, use_of}
 use Rattle.pd_uses.specs.Ordered.{is_within}
+use Rattle.pd_uses.specs.Parts.{AreParts, hits_at}
 use Rattle.pd_uses.specs.Uses.{row_uses, rows_uses}
 use Rattle.pd_uses.proofs.HitLemmas.{bare_nearer, below_leaf, each_more, each_one, row_hits}
 
@@ -199,25 +201,27 @@ module _ (region : Region) (image : List (List ℕ)) where
 
 -- the uses in a part of a region
 module _ (part : Region) where
-  leaf_within : (n : ℕ) (leaves : List (List Hit)) → leaf_at (map (filter (is_hit part)) leaves) n ≡ filter (is_hit part) (leaf_at leaves n)
-  leaf_within zero [] = refl
-  leaf_within (suc n) [] = refl
-  leaf_within zero (hits ∷ leaves) = refl
-  leaf_within (suc n) (hits ∷ leaves) = leaf_within n leaves
+  abbrev here : DataUse → Bool
+  here = is_within part.first part.end
 
-  uses_within : (id : ℕ) (hits : List Hit) → map (use_of id) (filter (is_hit part) hits) ≡ filter (is_within part.first part.end) (map (use_of id) hits)
+  uses_within : (id : ℕ) (hits : List Hit) → map (use_of id) (filter (is_hit part) hits) ≡ filter here (map (use_of id) hits)
   uses_within id [] = refl
   uses_within id (hit ∷ hits) = elim (cases_Bool (is_hit part hit)) [
     | inl inside ↦ rw (inside, uses_within id hits) refl
     | inr outside ↦ rw (outside, uses_within id hits) refl
   ]
 
-  pub visits_within : (leaves : List (List Hit)) (visits : List Visit) → visits_uses (map (filter (is_hit part)) leaves) visits ≡ filter (is_within part.first part.end) (visits_uses leaves visits)
+  pub no_visits : (leaves : List (List Hit)) → filter here (visits_uses leaves []) ≡ []
   unfolding visits_uses
-  visits_within leaves [] = refl
-  visits_within leaves (visit ∷ visits) =
-      ap₂ (λ (xs ys : List DataUse). xs ++ ys) (ap (map (use_of visit.id)) (leaf_within visit.leaf leaves) ∙ uses_within visit.id (leaf_at leaves visit.leaf)) (visits_within leaves visits)
-      ∙ sym (filter-append (is_within part.first part.end) (visit_uses leaves visit) (flat_map (visit_uses leaves) visits))
+  no_visits leaves = refl
+
+  -- by a visit more, which adds what its leaf has of the part
+  pub visits_more : (leaves : List (List Hit)) (parts : List LeafPart) (visits : List Visit) (visit : Visit) → AreParts part leaves parts
+      → filter here (visits_uses leaves (visits ++ (visit ∷ []))) ≡ filter here (visits_uses leaves visits) ++ map (use_of visit.id) (hits_at leaves parts visit.leaf)
+  visits_more leaves parts visits visit are =
+      ap (filter here) (uses_last leaves visits visit)
+      ∙ (filter-append here (visits_uses leaves visits) (visit_uses leaves visit)
+      ∙ ap (λ (uses : List DataUse). filter here (visits_uses leaves visits) ++ uses) (sym (ap (map (use_of visit.id)) (are.each visit.leaf) ∙ uses_within visit.id (leaf_at leaves visit.leaf))))
 
 -- where the device tells what it holds: one block more, whose children were looked into or not
 module _ (held : Option (List (List ℕ))) (region : Region) (id edges b : ℕ) where

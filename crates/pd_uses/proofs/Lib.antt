@@ -9,3 +9,4 @@ pub mod ListWalkLemmas
 pub mod ListRowLemmas
 pub mod HitLemmas
 pub mod FoundLemmas
+pub mod PartLemmas

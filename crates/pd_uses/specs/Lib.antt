@@ -7,5 +7,7 @@ pub mod Meets
 pub mod ListWalk
 pub mod UseLines
 pub mod Hits
+pub mod Spans
 pub mod FoundUses
+pub mod Parts
 pub mod Descent

@@ -1,11 +1,11 @@
 //! What is known of a pool's metadata blocks, and the leaves in which a region has mappings.
 
-ghost use Rattle.std.specs.Prelude.{◌≡◌, ◌++◌, filter, map, IfOk, OnOk};
-ghost use Rattle.pd_uses.specs.FoundUses.{visit_uses};
-ghost use Rattle.pd_uses.specs.Hits.{is_hit};
+ghost use Rattle.std.specs.Prelude.{◌≡◌, ◌++◌, map, OnOk};
+ghost use Rattle.pd_uses.specs.Hits.{use_of};
 
 use crate::data_use::DataUse;
-use crate::hits::{LeafHits, Region};
+use crate::hits::{Hit, LeafHits, Region};
+use crate::parts::{hits_of, number_of_hits, parts_of};
 use std::alloc::{AllocError, Global};
 
 /// How many lines come for each sample of their blocks: a prime, so that devices with the same mappings give other blocks.
@@ -33,7 +33,7 @@ pub(crate) struct Visit {
 
 /// The leaves with mappings to the blocks of a region, each of them once, and which devices have them where.
 ///
-/// It takes 8 bytes a metadata block, 16 a mapping, and 16 for each time that a device has such a leaf.
+/// It takes 8 bytes a metadata block, 40 a leaf, 16 a mapping, and 16 for each time that a device has such a leaf.
 #[derive(Drop)]
 pub(crate) struct Found {
     notes: Vec<Note>,
@@ -115,10 +115,12 @@ impl Found {
     pub(crate) fn uses_in(&self, alloc: Global, region: Region) -> Result<Vec<DataUse>, AllocError>
         ensures { IfOk result (λ uses. uses.items ≡ filter (is_within region.first region.end) (found_uses self.now)) }
     {
-        let leaves = leaves_within(alloc, self.leaves.as_slice(), region)?;
-        let mut uses = Vec::new(alloc);
+        let leaves = self.leaves.as_slice();
+        let parts = parts_of(alloc, leaves, region)?;
+        let mut uses = Vec::with_capacity(alloc, number_of_hits(leaves, parts.as_slice()))?;
         for visit in &self.visits {
-            add_uses(&mut uses, *visit, leaves.as_slice())?;
+            let hits = hits_of(leaves, parts.as_slice(), visit.leaf as usize);
+            add_uses(&mut uses, visit.id, hits)?;
         }
         Ok(uses)
     }
@@ -156,32 +158,14 @@ impl Found {
     }
 }
 
-/// The mappings of each leaf that are in a region. Want of memory is the only error.
-fn leaves_within(
-    alloc: Global,
-    leaves: &[LeafHits],
-    region: Region,
-) -> Result<Vec<LeafHits>, AllocError>
-    ensures { IfOk result (λ within. within.items ≡ map (filter (is_hit region)) leaves.now) }
+/// Adds the uses that mappings are where a device has them. Want of memory is the only error.
+fn add_uses(uses: &mut Vec<DataUse>, id: u64, hits: &[Hit]) -> Result<(), AllocError>
+    ensures { OnOk result (uses.new.items ≡ uses.old.items ++ map (use_of id) hits.now) }
 {
-    let mut within = Vec::with_capacity(alloc, leaves.len())?;
-    for leaf in leaves {
-        within.push(leaf.within(alloc, region)?)?;
-    }
-    Ok(within)
-}
-
-/// Adds the uses by a visit. Want of memory is the only error.
-fn add_uses(uses: &mut Vec<DataUse>, visit: Visit, leaves: &[LeafHits]) -> Result<(), AllocError>
-    ensures { OnOk result (uses.new.items ≡ uses.old.items ++ visit_uses leaves.now visit) }
-{
-    let Some(leaf) = leaves.get(visit.leaf as usize) else {
-        return Ok(());
-    };
-    for hit in leaf.as_slice() {
+    for hit in hits {
         uses.push(DataUse {
             block: hit.block,
-            id: visit.id,
+            id,
             virt: hit.virt,
         })?;
     }

@@ -1,8 +1,9 @@
 //! The mappings of leaves to the data blocks of a region.
 
-ghost use Rattle.std.specs.Prelude.{◌≡◌, ◌++◌, ◌∷◌, [], false, filter, IfOk, OnOk};
+ghost use Rattle.std.specs.Prelude.{◌≡◌, ◌++◌, ◌∷◌, [], false, filter, IfOk, IsTrue, OnOk};
 ghost use Rattle.pd_kinds.specs.Node.{is_inner_node};
 ghost use Rattle.pd_uses.specs.Hits.{has_block, hits_in, is_hit};
+ghost use Rattle.pd_uses.specs.Spans.{IsSpan};
 
 use pd_kinds::Block;
 use pd_node::{entries, key, value};
@@ -26,19 +27,30 @@ pub(crate) struct Hit {
     pub(crate) virt: u64,
 }
 
-/// The mappings of a leaf to the blocks of a region.
+/// A block at or below those of some mappings, and one at or above them.
+#[derive(Clone, Copy, Debug, PartialEq, Eq)]
+pub(crate) struct Span {
+    pub(crate) least: u64,
+    pub(crate) most: u64,
+}
+
+/// The mappings of a leaf to the blocks of a region, in 16 bytes each, and between which blocks they lead.
 #[derive(Drop)]
 pub(crate) struct LeafHits {
     hits: Vec<Hit>,
+    span: Span,
 }
 
 impl Model for LeafHits {
     ghost use Rattle.std.specs.Prelude.{List};
     ghost use Rattle.pd_uses.specs.declared.hits.Hit.{Hit as OneHit};
+    ghost use Rattle.pd_uses.specs.Spans.{IsSpan};
 
     ghost Value = { List OneHit };
 
     ghost view = { λ leaf. leaf.hits.items };
+
+    ghost invariant = { λ leaf. IsSpan leaf.span leaf.hits.items };
 }
 
 impl Region {
@@ -60,33 +72,85 @@ fn add_hit(hits: &mut Vec<Hit>, region: Region, hit: Hit) -> Result<(), AllocErr
     Ok(())
 }
 
+/// The mappings of a leaf to the blocks of the region. Want of memory is the only error.
+#[tactic(auto, unfolding(crate::specs::Hits::hits_in, pd_tree::specs::Below::items_from))]
+fn hits_of_leaf(alloc: Global, region: Region, block: &Block) -> Result<Vec<Hit>, AllocError>
+    requires { is_inner_node block.now.0 ≡ false }
+    ensures { IfOk result (λ hits. hits.items ≡ hits_in region block.now.0) }
+{
+    let number = entries::<BlockTime>(block);
+    let mut hits = Vec::with_capacity(alloc, number)?;
+    for i in 0..number {
+        let hit = Hit {
+            block: value::<BlockTime>(block, i).block,
+            virt: key::<BlockTime>(block, i),
+        };
+        add_hit(&mut hits, region, hit)?;
+    }
+    hits.shrink_to_fit();
+    Ok(hits)
+}
+
+/// Between which blocks mappings lead.
+fn span_of(hits: &[Hit]) -> Span
+    ensures { IsSpan result hits.now }
+{
+    let mut span = Span {
+        least: u64::MAX,
+        most: 0,
+    };
+    for hit in hits {
+        span = Span {
+            least: span.least.min(hit.block),
+            most: span.most.max(hit.block),
+        };
+    }
+    span
+}
+
+/// How many of the mappings lead to the blocks of the region.
+fn number_within(hits: &[Hit], region: Region) -> usize {
+    let mut number: usize = 0;
+    for hit in hits {
+        number = number.wrapping_add(region.has(hit.block) as usize);
+    }
+    number
+}
+
 impl LeafHits {
     /// The mappings of a leaf to the blocks of the region. Want of memory is the only error.
-    #[tactic(auto, unfolding(crate::specs::Hits::hits_in, pd_tree::specs::Below::items_from))]
     pub(crate) fn of(alloc: Global, region: Region, block: &Block) -> Result<LeafHits, AllocError>
         requires { is_inner_node block.now.0 ≡ false }
         ensures { IfOk result (λ leaf. leaf ≡ hits_in region block.now.0) }
     {
-        let mut hits = Vec::new(alloc);
-        for i in 0..entries::<BlockTime>(block) {
-            let hit = Hit {
-                block: value::<BlockTime>(block, i).block,
-                virt: key::<BlockTime>(block, i),
-            };
-            add_hit(&mut hits, region, hit)?;
-        }
-        Ok(LeafHits { hits })
+        let hits = hits_of_leaf(alloc, region, block)?;
+        let span = span_of(hits.as_slice());
+        Ok(LeafHits { hits, span })
+    }
+
+    /// Whether all of them lead past the region, to one side or the other. It looks at none of them.
+    pub(crate) fn is_outside(&self, region: Region) -> bool
+        ensures { IsTrue result → filter (is_hit region) self.now ≡ [] }
+    {
+        (self.span.most < region.first) | (self.span.least >= region.end)
+    }
+
+    /// Whether all of them lead into the region. It looks at none of them.
+    pub(crate) fn is_inside(&self, region: Region) -> bool
+        ensures { IsTrue result → filter (is_hit region) self.now ≡ self.now }
+    {
+        (self.span.least >= region.first) & (self.span.most < region.end)
     }
 
     /// Those of them in another region. Want of memory is the only error.
-    pub(crate) fn within(&self, alloc: Global, region: Region) -> Result<LeafHits, AllocError>
-        ensures { IfOk result (λ leaf. leaf ≡ filter (is_hit region) self.now) }
+    pub(crate) fn within(&self, alloc: Global, region: Region) -> Result<Vec<Hit>, AllocError>
+        ensures { IfOk result (λ hits. hits.items ≡ filter (is_hit region) self.now) }
     {
-        let mut hits = Vec::new(alloc);
-        for hit in &self.hits {
+        let mut hits = Vec::with_capacity(alloc, number_within(self.as_slice(), region))?;
+        for hit in self.as_slice() {
             add_hit(&mut hits, region, *hit)?;
         }
-        Ok(LeafHits { hits })
+        Ok(hits)
     }
 
     /// The mappings, by ascending virtual block.

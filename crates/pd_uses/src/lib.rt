@@ -14,6 +14,7 @@ mod hits;
 mod lines;
 mod list_walk;
 mod meets;
+mod parts;
 mod region;
 mod reverse_map;
 mod tallies;

@@ -28,9 +28,9 @@ use std::alloc::Global;
 
 /// Puts a line for each mapping to a data block from `first` on and below `end`, of the pool with this superblock:
 /// ordered by data block, then by the number of the thin device, then by virtual block. Each leaf of mappings is read once,
-/// however many devices share it. It holds 8 bytes a metadata block, 16 for each mapping of a leaf to those blocks, 16 for
-/// each time that a device has such a leaf, and the lines of some 2^18 mappings at once, in 24 bytes each and the buffer of
-/// their sort.
+/// however many devices share it. It holds 8 bytes a metadata block, 16 for each mapping of a leaf to those blocks, 72 for
+/// each leaf that has any, 16 for each time that a device has such a leaf, and the lines of some 2^18 mappings at once, in 24
+/// bytes each, at most 16 more where these are a part of their leaf's, and the buffer of their sort.
 ///
 /// Fails with `Device` where a read failed, with `Memory` where memory wasn't found, and with `Sink` where `out` failed;
 /// then a front of the lines was put. Nothing is put before all leaves were read.

@@ -5,7 +5,7 @@ use Rattle.pd_thin_meaning.specs.Items.{block_time_of}
 use Rattle.pd_uses.specs.declared.hits.Hit.{Hit}
 use Rattle.pd_uses.specs.Hits.{is_hit}
 use Rattle.pd_uses.proofs.HitLemmas.{hits_more}
-use Rattle.pd_uses.proofs.hits.LeafHits.of.Goals as goal
+use Rattle.pd_uses.proofs.hits.hits_of_leaf.Goals as goal
 
 pub loop-i-preserved : goal.loop-i-preserved
 loop-i-preserved c =
