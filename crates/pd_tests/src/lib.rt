@@ -14,6 +14,8 @@ mod order_tests;
 #[cfg(test)]
 mod passing_tests;
 #[cfg(test)]
+mod random_pools;
+#[cfg(test)]
 mod rehearse_tests;
 #[cfg(test)]
 mod reports;

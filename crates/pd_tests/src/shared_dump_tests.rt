@@ -4,7 +4,7 @@ use crate::reports::expect_told;
 use crate::whole_tests::{details, superblock};
 use pd_kinds::Block;
 use pd_node::{write_inner, write_leaf};
-use pd_samples::pool::{empty_leaf, inner, pool_of_one_mapping};
+use pd_samples::pool::{empty_leaf, held_copy, inner, pool_of_one_mapping};
 use pd_supers::write_thin_super;
 use pd_value::{BlockTime, Root};
 use std::alloc::{AllocError, Global};
@@ -19,6 +19,13 @@ pub(crate) const SHARED_DUMP: &[&str] = &["thin_dump", "--shared", "thin.img"];
 pub(crate) struct Top {
     root: u64,
     mapped: u64,
+}
+
+impl Top {
+    /// How many mappings are below it.
+    pub(crate) fn mapped(self) -> u64 {
+        self.mapped
+    }
 }
 
 /// The leaf in block 1: virtual block 0 in data block 0.
@@ -99,6 +106,22 @@ pub(crate) fn of_three(first: Top, second: Top, third: Top) -> [Block; 16] {
             (3, details(third.mapped)),
         ],
     );
+    image
+}
+
+/// Devices 1 and 2 with a leaf each, and a held copy in block 11 with trees of its own. Its device 1 has the second leaf, and
+/// its device 9 the data block of the first one.
+#[tactic(auto, unfolding(pd_kinds::specs::Node::is_ascending))]
+pub(crate) fn with_held_trees() -> [Block; 16] {
+    let mut image = of_two(FIRST, SECOND);
+    image[0] = write_thin_super(&superblock(2, 11));
+    let mut copy = superblock(2, 0);
+    copy.mapping_root = 12;
+    copy.details_root = 14;
+    image[11] = held_copy(11, &copy);
+    image[12] = write_leaf(12, &[(1, Root(10)), (9, Root(13))]);
+    image[13] = write_leaf(13, &[(5, BlockTime { block: 0, time: 0 })]);
+    image[14] = write_leaf(14, &[(1, details(1)), (9, details(1))]);
     image
 }
 
