@@ -5,11 +5,11 @@ ghost use Rattle.std.specs.Prelude.{◌<◌, ◌^◌};
 use pd_bitmap::{seal_bitmap, set_two_bits};
 use pd_image::Pick;
 use pd_kinds::{BLOCK_SIZE, Block};
-use pd_node::write_leaf;
+use pd_node::{write_inner, write_leaf};
 use pd_samples::devices::{Devices, Fill, filled, may_be_old};
 use pd_samples::expected::End::{Done, NoRoom, Stopped};
 use pd_samples::expected::{
-    End, ONES, PICKS, THIN, Trouble, expect_dumped, expect_end, expect_held, made,
+    End, ONES, PICKS, THIN, Trouble, expect, expect_dumped, expect_end, expect_held, made,
 };
 use pd_samples::pool::{
     bitmap, damaged, device_leaf, empty_leaf, empty_super, held_copy, index, index_entry,
@@ -17,7 +17,7 @@ use pd_samples::pool::{
 };
 use pd_samples::runs::{Failing, NOTHING_FAILS, Ran, blocks_after_crash, blocks_of};
 use pd_supers::write_thin_super;
-use pd_value::{BlockTime, Count, Details};
+use pd_value::{BlockTime, Count, Details, Root};
 use std::alloc::{AllocError, Global};
 use std::process::Abort;
 use std::test::Fail;
@@ -165,6 +165,44 @@ const ROWS: &[Row] = &[
     (OF_NO_SECTORS, FOUR, 16, "2", BAD_SIZE, FOUR, UNTOUCHED),
 ];
 
+/// Two devices on one leaf, of which one block is moved; and that pool with two data blocks.
+const PAIR: &str =
+    "thin 2\npool 00000000-0000-0000-0000-000000000000 0 0 8 4\nleaf 0 2\nmap 0 0 1 0\nmap 1 3 1 0\ndevice 1 2 0 0 0\nuse 0\ndevice 2 2 0 0 0\nuse 0\nend\n";
+
+const PAIR_SMALLER: &str =
+    "thin 2\npool 00000000-0000-0000-0000-000000000000 0 0 8 2\nleaf 0 2\nmap 0 0 2 0\ndevice 1 2 0 0 0\nuse 0\ndevice 2 2 0 0 0\nuse 0\nend\n";
+
+/// The same pool without its shared leaf.
+const PAIR_APART: &str =
+    "thin 1\npool 00000000-0000-0000-0000-000000000000 0 0 8 2\ndevice 1 2 0 0 0\nmap 0 0 2 0\ndevice 2 2 0 0 0\nmap 0 0 2 0\nend\n";
+
+/// A shared leaf before a run of a device's own, which follows on the leaf's once that is moved: they stay apart. And that pool
+/// with two data blocks.
+const BEFORE: &str =
+    "thin 2\npool 00000000-0000-0000-0000-000000000000 0 0 8 4\nleaf 0 1\nmap 1 3 1 0\ndevice 1 2 0 0 0\nuse 0\nmap 2 1 1 0\ndevice 2 1 0 0 0\nuse 0\nend\n";
+
+const BEFORE_SMALLER: &str =
+    "thin 2\npool 00000000-0000-0000-0000-000000000000 0 0 8 2\nleaf 0 1\nmap 1 0 1 0\ndevice 1 2 0 0 0\nuse 0\nmap 2 1 1 0\ndevice 2 1 0 0 0\nuse 0\nend\n";
+
+const BEFORE_FILL: Fill = &[0xA3, 0xA1, 0xA2, 0xA3];
+
+/// Rows with shared leaves: whether they are kept, and the row.
+const SHARED_ROWS: &[(bool, Row)] = &[
+    (true, (PAIR, FOUR, 10, "2", ONE, MOVED, PAIR_SMALLER)),
+    (
+        false,
+        (PAIR, FOUR, 10, "2", NoRoom(11, 10), FOUR, UNTOUCHED),
+    ),
+    (false, (PAIR, FOUR, 11, "2", ONE, MOVED, PAIR_APART)),
+    (true, (PAIR, FOUR, 9, "2", NoRoom(10, 9), FOUR, UNTOUCHED)),
+    (true, (PAIR, FOUR, 16, "1", NoRoom(2, 1), FOUR, UNTOUCHED)),
+    (true, (PAIR, FOUR, 16, "4", NONE, FOUR, PAIR)),
+    (
+        true,
+        (BEFORE, FOUR, 16, "2", ONE, BEFORE_FILL, BEFORE_SMALLER),
+    ),
+];
+
 /// The devices of a pool with this metadata.
 fn devices_over(
     alloc: Global,
@@ -175,11 +213,14 @@ fn devices_over(
     Devices::of(alloc, meta, vec![in alloc; ONES; output_blocks]?, fill)
 }
 
-/// Makes a pool smaller, to at most so many data blocks.
+/// How leaves are written that devices share: for each of them, or once.
+const WAYS: &[bool] = &[false, true];
+
+/// Makes a pool smaller, to at most so many data blocks, with its shared leaves or without.
 fn shrink(
     alloc: Global,
     devices: &Devices,
-    number: &str,
+    (shared, number): (bool, &str),
     failing: Failing,
 ) -> Result<Ran, AllocError> {
     let words = [
@@ -192,8 +233,10 @@ fn shrink(
         "third",
         "--nr-blocks",
         number,
+        "--shared",
     ];
-    devices.run(alloc, &words, failing)
+    let count = if shared { 10 } else { 9 };
+    devices.run(alloc, &words[..count], failing)
 }
 
 /// The output is as it was, or is clean and dumps as this text.
@@ -202,7 +245,18 @@ fn expect_text(alloc: Global, before: &Devices, ran: &Ran, text: &str) -> Result
         return expect_held(alloc, &ran.output, before.output.as_slice(), "the output");
     }
     let image = blocks_of(alloc, &ran.output)?;
-    expect_dumped(alloc, ("thin_check", "thin_dump"), image.as_slice(), text)
+    if text.starts_with("thin 1") {
+        return expect_dumped(alloc, ("thin_check", "thin_dump"), image.as_slice(), text);
+    }
+    let shape = ["thin_dump", "--shared", "image"];
+    expect(
+        alloc,
+        &["thin_check", "image"],
+        image.as_slice(),
+        0,
+        "clean\n",
+    )?;
+    expect(alloc, &shape, image.as_slice(), 0, text)
 }
 
 /// The metadata is as it was.
@@ -214,11 +268,11 @@ fn expect_kept(alloc: Global, before: &Devices, ran: &Ran) -> Result<(), Fail> {
 fn expect_shrink(
     alloc: Global,
     before: &Devices,
-    (number, end): (&str, End),
+    (shared, number, end): (bool, &str, End),
     after: &[u8],
     text: &str,
 ) -> Result<(), Fail> {
-    let ran = shrink(alloc, before, number, NOTHING_FAILS)?;
+    let ran = shrink(alloc, before, (shared, number), NOTHING_FAILS)?;
     expect_end(alloc, &ran, end)?;
     expect_kept(alloc, before, &ran)?;
     let wanted = filled(alloc, after)?;
@@ -227,31 +281,51 @@ fn expect_shrink(
 }
 
 /// Makes a pool of a text smaller.
-fn expect_row(alloc: Global, row: &Row) -> Result<(), Fail> {
+fn expect_row(alloc: Global, shared: bool, row: &Row) -> Result<(), Fail> {
     let (text, fill, output_blocks, number, end, after, text_after) = *row;
     let meta = made(alloc, THIN, text, 16)?;
     let before = devices_over(alloc, meta, output_blocks, fill)?;
-    expect_shrink(alloc, &*before, (number, end), after, text_after)
+    expect_shrink(alloc, &*before, (shared, number, end), after, text_after)
 }
 
 #[test]
 fn shrinks_move_what_lies_behind_and_write_a_smaller_pool(rt: HostRuntime) -> Result<(), Fail> {
     for row in ROWS {
-        expect_row(rt.alloc(), row)?;
+        expect_row(rt.alloc(), false, row)?;
     }
     Ok(())
 }
 
-/// A shrink of this metadata comes to this, and leaves this on the data device and this text.
+// No leaf of these pools is shared, so the option changes nothing.
+#[test]
+fn what_shares_nothing_is_made_smaller_as_without_the_option(rt: HostRuntime) -> Result<(), Fail> {
+    for row in ROWS {
+        expect_row(rt.alloc(), true, row)?;
+    }
+    Ok(())
+}
+
+#[test]
+fn what_devices_share_stays_shared(rt: HostRuntime) -> Result<(), Fail> {
+    for (shared, row) in SHARED_ROWS {
+        expect_row(rt.alloc(), *shared, row)?;
+    }
+    Ok(())
+}
+
+/// A shrink of this metadata comes to this, and leaves this on the data device and this text, with the option and without.
 fn expect_made_smaller(
     alloc: Global,
-    meta: Vec<Block>,
-    asked: (&str, End),
+    meta: &[Block],
+    (number, end): (&str, End),
     after: &[u8],
     text: &str,
 ) -> Result<(), Fail> {
-    let before = devices_over(alloc, meta, 16, FOUR)?;
-    expect_shrink(alloc, &*before, asked, after, text)
+    for shared in WAYS {
+        let before = devices_over(alloc, Vec::from_slice(alloc, meta)?, 16, FOUR)?;
+        expect_shrink(alloc, &*before, (*shared, number, end), after, text)?;
+    }
+    Ok(())
 }
 
 /// A leaf of mappings in which the virtual blocks 0 and 1 have these data blocks, at time 0.
@@ -340,22 +414,74 @@ fn torn_pool(alloc: Global) -> Result<Vec<Block>, Fail> {
 #[test]
 fn metadata_with_faults_is_not_made_smaller(rt: HostRuntime) -> Result<(), Fail> {
     let alloc = rt.alloc();
-    let leak = Vec::from_slice(alloc, &pool_with_counts(&[0, 2, 3]))?;
+    let leak = pool_with_counts(&[0, 2, 3]);
     let report = Stopped("fault data 2 leak stored 1 references 0\nfaults 1\n");
-    expect_made_smaller(alloc, leak, ("2", report), FOUR, UNTOUCHED)?;
+    expect_made_smaller(alloc, &leak, ("2", report), FOUR, UNTOUCHED)?;
     let torn = torn_pool(alloc)?;
     let report = Stopped("fault meta 1 checksum\nfaults 1\n");
-    expect_made_smaller(alloc, torn, ("2", report), FOUR, UNTOUCHED)?;
+    expect_made_smaller(alloc, torn.as_slice(), ("2", report), FOUR, UNTOUCHED)?;
     Ok(())
 }
 
 #[test]
 fn what_a_held_copy_uses_is_not_free(rt: HostRuntime) -> Result<(), Fail> {
     let alloc = rt.alloc();
-    let held = Vec::from_slice(alloc, &pool_with_held_blocks())?;
-    expect_made_smaller(alloc, held, ("3", NoRoom(4, 3)), FOUR, UNTOUCHED)?;
-    let alone = Vec::from_slice(alloc, &pool_with_counts(&[0, 3]))?;
-    expect_made_smaller(alloc, alone, ("2", ONE), MOVED, SMALLER)?;
+    let held = pool_with_held_blocks();
+    expect_made_smaller(alloc, &held, ("3", NoRoom(4, 3)), FOUR, UNTOUCHED)?;
+    let alone = pool_with_counts(&[0, 3]);
+    expect_made_smaller(alloc, &alone, ("2", ONE), MOVED, SMALLER)?;
+    Ok(())
+}
+
+/// Two devices on one inner node, below which are two leaves: the metadata, put together by hand.
+#[tactic(auto, unfolding(pd_kinds::specs::Node::is_ascending))]
+fn pool_on_one_node() -> [Block; 16] {
+    let mut fields = empty_super();
+    fields.block_size = 8;
+    fields.data_map = map_root(4, 3, 5, 6);
+    fields.meta_map = map_root(16, 12, 7, 9);
+    fields.mapping_root = 2;
+    fields.details_root = 3;
+    fields.meta_blocks = 16;
+    let details = Details {
+        mapped: 3,
+        transaction: 0,
+        created: 0,
+        snapped: 0,
+    };
+    let third = BlockTime { block: 1, time: 0 };
+    let mut image = pool_with_counts(&[0, 1, 3]);
+    image[0] = write_thin_super(&fields);
+    image[2] = write_leaf(2, &[(1, Root(11)), (2, Root(11))]);
+    image[3] = write_leaf(3, &[(1, details), (2, details)]);
+    image[7] = index(7, &[index_entry(8, 4)]);
+    image[8] = bitmap(8, 12);
+    // Both devices have the node.
+    set_two_bits(&mut image[8], 11, 2);
+    seal_bitmap(&mut image[8], 8);
+    image[10] = write_leaf(10, &[(300, third)]);
+    image[11] = write_inner(11, &[(0, 1), (300, 10)]);
+    image
+}
+
+/// That pool with three data blocks, as it is dumped.
+const ON_ONE_NODE_SMALLER: &str =
+    "thin 2\npool 00000000-0000-0000-0000-000000000000 0 0 8 3\nleaf 0 2\nmap 0 0 1 0\nmap 1 2 1 0\nleaf 1 1\nmap 300 1 1 0\ndevice 1 3 0 0 0\nuse 0\nuse 1\ndevice 2 3 0 0 0\nuse 0\nuse 1\nend\n";
+
+const ON_ONE_NODE_FILL: Fill = &[0xA0, 0xA1, 0xA3, 0xA3];
+
+#[test]
+fn leaves_below_a_shared_node_stay_shared(rt: HostRuntime) -> Result<(), Fail> {
+    let alloc = rt.alloc();
+    let meta = Vec::from_slice(alloc, &pool_on_one_node())?;
+    let before = devices_over(alloc, meta, 16, FOUR)?;
+    expect_shrink(
+        alloc,
+        &*before,
+        (true, "3", ONE),
+        ON_ONE_NODE_FILL,
+        ON_ONE_NODE_SMALLER,
+    )?;
     Ok(())
 }
 
@@ -427,11 +553,11 @@ fn is_past_trouble(
     rt: &impl Abort,
     alloc: Global,
     before: &Devices,
-    whole: &[Block],
+    (shared, whole): (bool, &[Block]),
     trouble: Trouble,
     call: u64,
 ) -> Result<bool, Fail> {
-    let ran = shrink(alloc, before, "2", trouble.at(call))?;
+    let ran = shrink(alloc, before, (shared, "2"), trouble.at(call))?;
     let is_past = ran.status == 0;
     assert!(rt; is_past | (ran.status == trouble.status()), "{call}");
     if !is_past {
@@ -445,11 +571,11 @@ fn expect_troubles(
     rt: &impl Abort,
     alloc: Global,
     before: &Devices,
-    whole: &[Block],
+    made: (bool, &[Block]),
     trouble: Trouble,
 ) -> Result<(), Fail> {
     for call in 0..MANY {
-        if is_past_trouble(rt, alloc, before, whole, trouble, call)? {
+        if is_past_trouble(rt, alloc, before, made, trouble, call)? {
             return Ok(());
         }
     }
@@ -457,15 +583,21 @@ fn expect_troubles(
     Ok(())
 }
 
-#[test]
-fn a_shrink_that_fails_or_stops_anywhere_reads_the_same(rt: HostRuntime) -> Result<(), Fail> {
-    let alloc = rt.alloc();
-    let meta = made(alloc, THIN, POOL, 16)?;
+/// A shrink of this pool reads the same wherever it fails or stops.
+fn expect_safe(rt: &impl Abort, alloc: Global, shared: bool, text: &str) -> Result<(), Fail> {
+    let meta = made(alloc, THIN, text, 16)?;
     let before = devices_over(alloc, meta, 16, FOUR)?;
-    let ran = shrink(alloc, &*before, "2", NOTHING_FAILS)?;
+    let ran = shrink(alloc, &*before, (shared, "2"), NOTHING_FAILS)?;
     let whole = blocks_of(alloc, &ran.output)?;
     for trouble in TROUBLES {
-        expect_troubles(&rt, alloc, &*before, whole.as_slice(), *trouble)?;
+        expect_troubles(rt, alloc, &*before, (shared, whole.as_slice()), *trouble)?;
     }
+    Ok(())
+}
+
+#[test]
+fn a_shrink_that_fails_or_stops_anywhere_reads_the_same(rt: HostRuntime) -> Result<(), Fail> {
+    expect_safe(&rt, rt.alloc(), false, POOL)?;
+    expect_safe(&rt, rt.alloc(), true, PAIR)?;
     Ok(())
 }
