@@ -183,8 +183,10 @@ pub(crate) const WRITINGS: &[Asked] = &[
 /// A writeback.
 const WRITEBACK: &str = "cache_writeback --metadata-device x --fast-device f --origin-device y";
 
-/// A shrink to two data blocks, and one to a single block.
+/// A shrink to two data blocks, one that keeps what is shared, and one to a single block.
 const SHRINK: &str = "thin_shrink -i x -o y --data d --nr-blocks 2";
+
+const SHRINK_SHARED: &str = "thin_shrink --shared -i x -o y --data d --nr-blocks 2";
 
 const SHRINK_MORE: &str = "thin_shrink -i x -o y --data d --nr-blocks 1";
 
@@ -198,6 +200,8 @@ pub(crate) const OF_THREE: &[AskedOfThree] = &[
     (WRITEBACK, DirtyCache, Nothing, Data, 4),
     (SHRINK, Apart, Target, Data, 0),
     (SHRINK, DamagedPool, Target, Data, 1),
+    (SHRINK_SHARED, Apart, Target, Data, 0),
+    (SHRINK_SHARED, DamagedPool, Target, Data, 1),
     (SHRINK_MORE, Apart, Target, Data, 4),
 ];
 
