@@ -1154,6 +1154,26 @@ out 'moved 0'
 same data.img moved.img
 try 0 thin_dump smaller.img
 same out pool.txt
+# a pool whose devices share a leaf, in which one block moves: with the option it stays shared, and takes a block less
+{
+    printf '%s\n' 'thin 2' 'pool 00000000-0000-0000-0000-000000000000 0 0 8 4' 'leaf 0 2' 'map 0 0 1 0' 'map 1 3 1 0'
+    printf '%s\n' 'device 1 2 0 0 0' 'use 0' 'device 2 2 0 0 0' 'use 0' end
+} >pair.txt
+sed -e 's/ 8 4$/ 8 2/' -e 's/^map 0 0 1 0$/map 0 0 2 0/' -e '/^map 1 /d' pair.txt >smaller-pair.txt
+zeros pair.img 16
+try 0 thin_restore -i pair.txt -o pair.img
+cp whole.img data.img
+zeros ten.img 10
+try 4 thin_shrink -i pair.img -o ten.img --data data.img --nr-blocks 2
+notes 'pdata_tools: no room: need 11, blocks 10' "$room"
+same data.img whole.img
+try 0 thin_shrink --shared -i pair.img -o ten.img --data data.img --nr-blocks 2
+out 'moved 1'
+same data.img moved.img
+try 0 thin_check ten.img
+out clean
+try 0 thin_dump --shared ten.img
+same out smaller-pair.txt
 # the real pool, with as many data blocks as it uses, on a made-up data device
 truncate -s 262144000 wide.img
 zeros fresh.img 1024
@@ -1617,7 +1637,7 @@ END
     try 0 bash complete.bash "$complete" cache_writeback --origin-device thin-pool.i
     out thin-pool.img
     try 0 bash complete.bash "$complete" thin_shrink -i thin-pool.img --data data.img -
-    out -o --nr-blocks
+    out --shared -o --nr-blocks
     try 0 bash complete.bash "$complete" thin_shrink --data thin-pool.i
     out thin-pool.img
     try 0 bash complete.bash "$complete" thin_dump thin-pool.i
