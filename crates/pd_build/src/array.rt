@@ -1,8 +1,8 @@
 //! Arrays.
 
-ghost use Rattle.std.specs.Prelude.{◌≡◌, ℕ, ◌+◌, ◌-◌, ◌<◌, ◌≤◌, ◌^◌, List, [], ◌∷◌, ◌++◌, length, OnOk, OnErr, IfOk, IfErr, vec_len, IsTrue, ◌↔◌, ◌⊎◌};
+ghost use Rattle.std.specs.Prelude.{◌≡◌, ℕ, ◌+◌, ◌-◌, ◌<◌, ◌≤◌, ◌^◌, EachIndex, List, [], ◌∷◌, ◌++◌, length, slice_index, OnOk, OnErr, IfOk, IfErr, vec_len, IsTrue, ◌↔◌, ◌⊎◌};
 ghost use Rattle.std.specs.List.{All};
-ghost use Rattle.pd_kinds.specs.Array.{max_words};
+ghost use Rattle.pd_kinds.specs.Array.{array_block, max_words};
 ghost use Rattle.pd_array.specs.Word.{size_of};
 ghost use Rattle.pd_image.specs.Device.{IsWritable};
 ghost use Rattle.pd_draft.specs.Closed.{IsClosed, StaysClosed};
@@ -68,6 +68,7 @@ impl ArrayBuilder {
     }
 
     /// Takes a word. Where it fills a block, or is the last one, the block is written.
+    #[inline]
     pub fn push<D: Device>(
         &mut self,
         draft: &mut Draft<'_, D>,
@@ -91,11 +92,10 @@ impl ArrayBuilder {
         if !is_full(self.begun.len(), self.word.max_words(), self.left) {
             return Ok(());
         }
-        let place = draft.next();
-        let block = write_array(place, self.word, &self.begun);
+        let put = put_words(draft, self.word, &self.begun);
         self.begun.clear();
         self.made += 1;
-        put_block(draft, &block)
+        put
     }
 
     /// Writes the tree of the blocks, and answers the place of its root.
@@ -134,6 +134,28 @@ fn push_word(words: &mut Vec<u64>, value: u64) -> Result<(), BuildFault>
         Ok(()) => Ok(()),
         Err(_) => Err(BuildFault::Memory),
     }
+}
+
+/// Puts the block of these words at the draft's next place. It stands apart from what takes a word, which then makes no room
+/// for a block.
+#[inline(never)]
+fn put_words<D: Device>(
+    draft: &mut Draft<'_, D>,
+    word: Word,
+    words: &[u64],
+) -> Result<(), BuildFault>
+    requires few { length words.now ≤ max_words (size_of word) }
+    requires fit { EachIndex words.now (λ i. slice_index words.now i < 256 ^ size_of word) }
+    requires writable { IsWritable (draft_state draft.old).device }
+    requires room { draft.old.next < (draft_state draft.old).device.blocks }
+    requires closed { IsClosed (draft_state draft.old).device }
+    ensures same_reference { draft.new.dev.ghost_name ≡ draft.old.dev.ghost_name }
+    ensures wrote { OnOk result (Wrote (array_block (size_of word) draft.old.next words.now ∷ []) (draft_state draft.old) (draft_state draft.new)) }
+    ensures closed { StaysClosed (draft_state draft.old).device (draft_state draft.new).device }
+    ensures faults { CountsBuildFault result (draft_state draft.old).device.faults (draft_state draft.new).device.faults }
+{
+    let block = write_array(draft.next(), word, words);
+    put_block(draft, &block)
 }
 
 /// Writes the tree of the blocks of an array, which stand just before it, and answers its root.

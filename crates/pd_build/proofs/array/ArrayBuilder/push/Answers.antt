@@ -1,4 +1,4 @@
-use Rattle.std.proofs.Common.{◌≡◌, ◌+◌, ◌-◌, ◌∷◌, ◌++◌, ℕ, List, [], length, refl, ◌∙◌, ap, ap₂, arith, subst, ◌⊎◌, inl, inr, ⊎_elim}
+use Rattle.std.proofs.Common.{◌≡◌, ◌+◌, ◌-◌, ◌∷◌, ◌++◌, ℕ, List, [], length, refl, ◌∙◌, ap, arith, subst, ◌⊎◌, inl, inr, ⊎_elim}
 use Rattle.pd_kinds.specs.Array.{array_block, max_words}
 use Rattle.pd_array.specs.Word.{size_of}
 use Rattle.pd_draft.specs.Placed.{Wrote}
@@ -15,16 +15,15 @@ returns-clause-pushes g c =
     let len = c.in_ok-push_word.ensures.len in
     let ends : (length c.self.inside.begun.items + 1 ≡ max_words size) ⊎ (c.self.inside.left - 1 ≡ 0) =
     ⊎_elim (λ full. inl (omega (arith, c.len.ensures, c.max_words.ensures, full))) (λ last. inr last) (c.if-not-is_full.ensures.0 refl) in
-    let block : c.write_array-block.result.0 ∷ [] ≡ array_block size c.args.draft.now.next (c.self.inside.begun.items ++ c.args.value ∷ []) ∷ [] =
-    ap (λ (b : List ℕ). b ∷ []) (c.write_array-block.ensures.block
-    ∙ ap₂ (array_block size) c.next-place.ensures (c.deref.ensures.value ∙ c.in_ok-push_word.ensures.items)) in
+    let block : array_block size c.args.draft.now.next c.deref.result.now ∷ [] ≡ array_block size c.args.draft.now.next (c.self.inside.begun.items ++ c.args.value ∷ []) ∷ [] =
+    ap (λ (words : List ℕ). array_block size c.args.draft.now.next words ∷ []) (c.deref.ensures.value ∙ c.in_ok-push_word.ensures.items) in
     rw (← c.self.view_is)
-    (on_ok c.put_block.result
+    (on_ok c.put_words-put.result
     (λ wrote. push_end size c.args.value (record { begun = c.self.inside.begun.items; left = c.self.inside.left; made = c.self.inside.made })
-    (record { begun = c.clear.new.self.items; left = c.self.inside.left - 1; made = c.self.inside.made + 1 }) (draft_state c.args.draft.now) (draft_state c.put_block.new.draft)
+    (record { begun = c.clear.new.self.items; left = c.self.inside.left - 1; made = c.self.inside.made + 1 }) (draft_state c.args.draft.now) (draft_state c.put_words-put.new.draft)
     c.clear.ensures.items (omega arith) refl (omega (arith, c.self.invariant.0)) ends
-    (subst (λ (blocks : List (List ℕ)). Wrote blocks (draft_state c.args.draft.now) (draft_state c.put_block.new.draft)) block wrote))
-    c.put_block.ensures.wrote)
+    (subst (λ (blocks : List (List ℕ)). Wrote blocks (draft_state c.args.draft.now) (draft_state c.put_words-put.new.draft)) block wrote))
+    c.put_words-put.ensures.wrote)
 
 pub returns-then-not-is_full-clause-pushes : goal.returns-then-not-is_full-clause-pushes
 returns-then-not-is_full-clause-pushes g c =
@@ -33,8 +32,8 @@ returns-then-not-is_full-clause-pushes g c =
     (record { begun = c.push_word.new.words.items; left = c.self.inside.left - 1; made = c.self.inside.made }) (draft_state c.args.draft.now) c.requires.closed
     c.in_ok-push_word.ensures.items (let more = rw (← c.self.view_is) at c.requires.more in omega arith) refl)
 
-pub put_block-requires-clause-room : goal.put_block-requires-clause-room
-put_block-requires-clause-room g c =
+pub put_words-put-requires-clause-room : goal.put_words-put-requires-clause-room
+put_words-put-requires-clause-room g c =
     let more = rw (← c.self.view_is) at c.requires.more in
     let room = rw (← c.self.view_is) at c.requires.room in
     let least = array_some (size_of c.self.inside.word) (record { begun = c.self.inside.begun.items; left = c.self.inside.left; made = c.self.inside.made })

@@ -1,4 +1,4 @@
-use Rattle.std.proofs.Common.{◌≡◌, ◌<◌, ◌≤◌, ◌+◌, ◌-◌, ◌∷◌, [], ℕ, zero, suc, List, refl, sym, subst, ◌∙◌, ap, arith}
+use Rattle.std.proofs.Common.{◌≡◌, ◌≤◌, ◌+◌, ◌-◌, ◌∷◌, [], ℕ, zero, suc, List, refl, sym, subst, ◌∙◌, ap, arith}
 use Rattle.pd_kinds.specs.Node.{Entry, key_at, leaf_block, max_entries}
 use Rattle.pd_draft.specs.Placed.{Wrote}
 use Rattle.pd_draft.specs.DraftState.{draft_state}

@@ -1,4 +1,4 @@
-use Rattle.std.proofs.Common.{◌<◌, ◌≤◌, ◌+◌, refl, sym, ◌∙◌, ap, arith}
+use Rattle.std.proofs.Common.{◌≤◌, ◌+◌, refl, sym, ◌∙◌, ap, arith}
 use Rattle.pd_kinds.specs.Node.{Entry, max_entries}
 use Rattle.pd_node.specs.OpenLeaf.{HasMore, entries_in}
 use Rattle.pd_build.specs.Leaves.{LeavesLeft, low_of, low_after}
