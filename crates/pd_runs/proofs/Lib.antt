@@ -1,0 +1,6 @@
+pub mod NumberLemmas
+pub mod DifferenceLemmas
+pub mod RunLemmas
+pub mod PackedLemmas
+pub mod ChunkLemmas
+pub mod PlaceLemmas
