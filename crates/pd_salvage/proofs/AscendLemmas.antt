@@ -1,13 +1,15 @@
 -- The entries that are given ascend, so that none of them is left out of those that ascend.
 use Rattle.std.proofs.Common.{◌≡◌, inl, inr, ℕ, zero, suc, ◌+◌, ◌^◌, ◌<◌, ◌≤◌, true, false, not, ◌&&◌, ◌||◌, nat_lt, nat_eq, List, [], ◌∷◌, ◌++◌, map, filter, refl, ap, arith, max, min, Option, None, eq-eqb}
 use Rattle.std.specs.List.{flat_map, range_with_len}
-use Rattle.std.proofs.lemmas.List.{append-nil}
+use Rattle.std.proofs.lemmas.List.{append-nil, map-append}
 use Rattle.std.proofs.lemmas.Bool.{cases_Bool, cases_lt, or_parts, not-false, lt-ltb, le-ltb, ne_eqb}
 use Rattle.pd_kinds.specs.Edge.{is_outside}
 use Rattle.pd_kinds.specs.Graph.{block_at}
 use Rattle.pd_kinds.specs.Layout.{leaf_entries, node_entries_of}
 use Rattle.pd_kinds.specs.Node.{Entry, entry_count, is_ascending, is_inner_node, key_at, value_at, child_at, node_bad, node_keys, node_tests}
 use Rattle.pd_laid.specs.Salvage.{salvaged_below, salvaged_entries, is_damaged, child_low, child_high}
+use Rattle.pd_laid.specs.Visits.{Visit, entries_of_visit, visits}
+use Rattle.pd_laid.proofs.VisitLemmas.{visits_give}
 use Rattle.pd_laws.proofs.SoundLemmas.{none_broken, tests_after_one}
 use Rattle.pd_tree.specs.Cursor.{root_left}
 use Rattle.pd_tree.specs.Items.{item_of}
@@ -15,7 +17,7 @@ use Rattle.pd_tree.specs.Search.{KeysAscend}
 use Rattle.pd_tree.proofs.OrderLemmas.{keys_say}
 use Rattle.pd_tree.specs.Next.{IsNext}
 use Rattle.pd_salvage.specs.Ascending.{IsNextFrom, ascending_from}
-use Rattle.pd_salvage.specs.Range.{all_keys, saved_below}
+use Rattle.pd_salvage.specs.Range.{all_keys, items_of_visit, saved_below}
 
 -- keys ascend, from one number on and below another
 abbrev pub AreAscending : ℕ → ℕ → List Entry → Type 0
@@ -138,12 +140,24 @@ pub ascending_none : {X : Type 0} (least : ℕ) → ascending_from {X = X} least
 unfolding ascending_from
 ascending_none {X} least = refl
 
+-- the entries of visits, decoded
+items_joined : {X : Type 0} (size : ℕ) (decoded : ℕ → X) (image : List (List ℕ)) (vs : List Visit)
+    → flat_map (items_of_visit size decoded image) vs ≡ map (item_of decoded) (flat_map (entries_of_visit size image) vs)
+items_joined size decoded image [] = refl
+items_joined size decoded image (v ∷ vs) =
+    rw (map-append (item_of decoded) (entries_of_visit size image v) (flat_map (entries_of_visit size image) vs), items_joined size decoded image vs) refl
+
 -- a cursor at its start, before a root that wasn't read
 pub started : {X : Type 0} (size : ℕ) (decoded : ℕ → X) (nr : ℕ) (image : List (List ℕ)) (root : ℕ) (left : List (ℕ × X)) → left ≡ []
     → ascending_from 0 (saved_below size decoded nr image 64 all_keys root ++ left) ≡ map (item_of decoded) (salvaged_entries size nr image root)
 unfolding saved_below salvaged_entries
 started {X} size decoded nr image root left none =
-    rw (none, append-nil (map (item_of decoded) (salvaged_below size nr image 64 root 0 (2 ^ 64))))
+    rw (
+      none,
+      append-nil (flat_map (items_of_visit size decoded image) (visits size nr image 64 root 0 (2 ^ 64))),
+      items_joined size decoded image (visits size nr image 64 root 0 (2 ^ 64)),
+      visits_give size nr image 64 root 0 (2 ^ 64),
+    )
     (all_ascend decoded 0 (2 ^ 64) (salvaged_below size nr image 64 root 0 (2 ^ 64)) (give_ascends size nr image 64 root 0 (2 ^ 64)))
 
 -- nothing is left below a root that was read

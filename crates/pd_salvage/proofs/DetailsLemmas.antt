@@ -1,5 +1,5 @@
 -- What is found of the details of devices, asked by ascending id.
-use Rattle.std.proofs.Common.{◌≡◌, inl, inr, ℕ, ◌+◌, ◌<◌, ◌≤◌, List, [], ◌∷◌, ◌++◌, Some, None, refl, sym, ap, ◌∙◌, arith, eq-eqb}
+use Rattle.std.proofs.Common.{◌≡◌, inl, inr, ℕ, ◌+◌, ◌<◌, ◌≤◌, List, [], ◌∷◌, ◌++◌, Option, Some, None, refl, sym, ap, ◌∙◌, arith, eq-eqb}
 use Rattle.std.proofs.lemmas.Bool.{cases_lt, lt-ltb, le-ltb}
 use Rattle.pd_value.specs.declared.thin.Details.{Details}
 use Rattle.pd_tree.specs.Next.{IsNext}
@@ -51,6 +51,12 @@ found_none {X} id start old new same none =
 
 pub joined_same : {X : Type 0} (id : ℕ) (start old new : List (ℕ × X)) → FindsSame id start old → FindsSame id old new → FindsSame id start new
 joined_same {X} id start old new first last key after = last key after ∙ first key after
+
+-- what is known is found
+pub found_known : (id : ℕ) (known : Option Details) (image : List (List ℕ)) (start : List (ℕ × Details)) (old new : SavedDetails) → FindsSame id start (details_left image old) → KnowsHere id known old new
+    → IsFound id known start (details_left image new)
+found_known id known image start old new same knows =
+    rw knows.same (record { here = (knows.found image).here ∙ same id (omega arith); later = λ key after. same key (omega arith) })
 
 -- what the entry that was read last says
 module _ (id key : ℕ) (details : Details) (self : SavedDetails) (read : self.ahead ≡ Some (key, details)) where

@@ -1,5 +1,5 @@
 -- A device more is saved.
-use Rattle.std.proofs.Common.{◌≡◌, ℕ, ◌+◌, ◌/◌, ◌%◌, ◌^◌, ◌<◌, ◌≤◌, Bool, true, false, cond, not, nat_lt, List, [], ◌∷◌, ◌++◌, length, map, filter, take, drop, Option, Some, None, IfSome, refl, sym, ap, ◌∙◌, arith, append_assoc}
+use Rattle.std.proofs.Common.{◌≡◌, ℕ, ◌+◌, ◌/◌, ◌%◌, ◌^◌, ◌≤◌, Bool, true, false, cond, not, nat_lt, List, [], ◌∷◌, ◌++◌, length, map, filter, take, drop, Option, Some, None, IfSome, refl, sym, ap, ◌∙◌, arith, append_assoc}
 use Rattle.std.specs.List.{AllByRecursion}
 use Rattle.std.specs.Option.{option_map, unwrap_or}
 use Rattle.std.proofs.lemmas.List.{append-nil, length-append, length-drop, map-append, take-append-le, drop-append-le}
@@ -147,7 +147,7 @@ module _ (blocks least : ℕ) (ds : List SavedDevice) (runs new given_runs : Lis
 -- devices that were saved and those that are left are all
 pub record Saves (s : ThinSuper) (image : List (List ℕ)) (saving : Saving) : Type 0 where
   pub knows : KnowsFrom (saved_least saving.tops) image saving
-  pub all : saved_devices saving.devices.items saving.runs.items ++ devices_of s image (saved_left 8 root_of image saving.tops)
+  pub all : saved_devices saving.devices.items saving.runs ++ devices_of s image (saved_left 8 root_of image saving.tops)
       ≡ devices_of s image (map (item_of root_of) (salvaged_entries 8 s.meta_map.blocks image s.mapping_root))
 
 -- one device more was saved
@@ -156,7 +156,7 @@ module _ (held : Option (List (List ℕ))) (id root mapped runs : ℕ) (details 
     (found : IfSome held (λ image. IsFoundOr (lost_details old.s.transaction old.s.time) id details (details_left image old.details) (details_left image new.details)))
     (left : (image : List (List ℕ)) → saved_left 8 block_time_of image cursor ≡ map (item_of block_time_of) (salvaged_entries 8 old.s.meta_map.blocks image root))
     (low : ℕ) (zero : low ≡ 0)
-    (gathered : IsGathered old.s.data_map.blocks low mapped held (λ image. to_come old.s.data_map.blocks image cursor) old.runs.items new.runs.items)
+    (gathered : IsGathered old.s.data_map.blocks low mapped held (λ image. to_come old.s.data_map.blocks image cursor) old.runs new.runs)
     (number : runs ≡ length gathered.given)
     (added : new.devices.items ≡ old.devices.items ++ saved_device id details mapped runs ∷ [])
     (fits : FitsDevice (saved_device id details mapped runs)) where
@@ -164,15 +164,15 @@ module _ (held : Option (List (List ℕ))) (id root mapped runs : ℕ) (details 
   saves_device = record {
     lawful = λ least from saving.
         rw added
-        (saving_more old.s.data_map.blocks least old.devices.items old.runs.items new.runs.items gathered.given (saved_device id details mapped runs) saving.number number gathered.runs_are
+        (saving_more old.s.data_map.blocks least old.devices.items old.runs new.runs gathered.given (saved_device id details mapped runs) saving.number number gathered.runs_are
         saving fits from gathered.number gathered.joined (rw zero at gathered.lawful));
     told =
         if_both held
         (λ image held_is (is_found : IsFoundOr (lost_details old.s.transaction old.s.time) id details (details_left image old.details) (details_left image new.details)) (all : mappings_of_runs gathered.given ≡ to_come old.s.data_map.blocks image cursor). λ least from knows count. (
           λ key after. is_found.later key (omega arith) ∙ (rw same (knows key (omega arith))),
           rw added
-              (devices_more old.s.data_map.blocks least old.devices.items old.runs.items new.runs.items gathered.given (saved_device id details mapped runs) count number gathered.runs_are
-              ∙ ap (λ (d : ThinDevice). saved_devices old.devices.items old.runs.items ++ d ∷ [])
+              (devices_more old.s.data_map.blocks least old.devices.items old.runs new.runs gathered.given (saved_device id details mapped runs) count number gathered.runs_are
+              ∙ ap (λ (d : ThinDevice). saved_devices old.devices.items old.runs ++ d ∷ [])
               (device_is old.s image id root mapped details gathered.given small
               (is_found.here ∙ ap (λ (o : Option Details). unwrap_or o (lost_details old.s.transaction old.s.time)) (knows id from))
               gathered.number
@@ -210,22 +210,22 @@ devices_skip s image id root left later is outside = rw (is, outside) refl
 
 module _ (held : Option (List (List ℕ))) (id root : ℕ) (old new : Saving) (tops : SavedCursor Root) (from : saved_least old.tops ≤ id) (step : saved_least tops ≡ id + 1)
     (next : IfSome held (λ image. saved_left 8 root_of image old.tops ≡ (id, root_of root) ∷ saved_left 8 root_of image tops))
-    (saving : IsSaving old.s.data_map.blocks (saved_least old.tops) old.devices.items old.runs.items)
+    (saving : IsSaving old.s.data_map.blocks (saved_least old.tops) old.devices.items old.runs)
     (told : IfSome held (λ image. Saves old.s image old)) where
   module _ (same : new.s ≡ old.s) (same_tops : new.tops ≡ tops) (inside : is_outside old.s.meta_map.blocks root ≡ false) (saves : SavesDevice held id root (record old { tops = tops }) new) where
-    pub one_sound : IsSaving new.s.data_map.blocks (saved_least new.tops) new.devices.items new.runs.items
+    pub one_sound : IsSaving new.s.data_map.blocks (saved_least new.tops) new.devices.items new.runs
     one_sound = rw (same, same_tops, step) (saves.lawful (saved_least old.tops) from saving)
 
     one_all : (image : List (List ℕ)) → saved_left 8 root_of image old.tops ≡ (id, root_of root) ∷ saved_left 8 root_of image tops → Saves old.s image old
-        → saved_devices new.devices.items new.runs.items ≡ saved_devices old.devices.items old.runs.items ++ salvaged_device old.s image (record { key = id; value = root }) ∷ []
-        → saved_devices new.devices.items new.runs.items ++ devices_of new.s image (saved_left 8 root_of image new.tops)
+        → saved_devices new.devices.items new.runs ≡ saved_devices old.devices.items old.runs ++ salvaged_device old.s image (record { key = id; value = root }) ∷ []
+        → saved_devices new.devices.items new.runs ++ devices_of new.s image (saved_left 8 root_of image new.tops)
         ≡ devices_of new.s image (map (item_of root_of) (salvaged_entries 8 new.s.meta_map.blocks image new.s.mapping_root))
     one_all image comes is more =
         rw (
           same,
           same_tops,
           more,
-          append_assoc (saved_devices old.devices.items old.runs.items) (salvaged_device old.s image (record { key = id; value = root }) ∷ []) (devices_of old.s image (saved_left 8 root_of image tops)),
+          append_assoc (saved_devices old.devices.items old.runs) (salvaged_device old.s image (record { key = id; value = root }) ∷ []) (devices_of old.s image (saved_left 8 root_of image tops)),
           ← devices_next old.s image id root (saved_left 8 root_of image old.tops) (saved_left 8 root_of image tops) comes inside,
         )
         is.all
@@ -242,7 +242,7 @@ module _ (held : Option (List (List ℕ))) (id root : ℕ) (old new : Saving) (t
         (if_both {R = Comes} held (λ image held_is comes is. (comes, is)) next told) saves.told
 
   module _ (outside : is_outside old.s.meta_map.blocks root ≡ true) where
-    pub skipped_sound : IsSaving old.s.data_map.blocks (saved_least tops) old.devices.items old.runs.items
+    pub skipped_sound : IsSaving old.s.data_map.blocks (saved_least tops) old.devices.items old.runs
     skipped_sound = record {
       lawful = λ rest are. saving.lawful rest (later_devices old.s.data_map.blocks (saved_least old.tops) (saved_least tops) rest (omega arith) are);
       joined = saving.joined;
@@ -255,7 +255,7 @@ module _ (held : Option (List (List ℕ))) (id root : ℕ) (old new : Saving) (t
         (λ image held_is comes is. record {
           knows = λ key after. is.knows key (omega arith);
           all =
-              ap (λ (ds : List ThinDevice). saved_devices old.devices.items old.runs.items ++ ds)
+              ap (λ (ds : List ThinDevice). saved_devices old.devices.items old.runs ++ ds)
               (sym (devices_skip old.s image id root (saved_left 8 root_of image old.tops) (saved_left 8 root_of image tops) comes outside))
               ∙ is.all;
         })
@@ -270,23 +270,23 @@ all_sound blocks least ds runs saving = record {
 }
 
 pub all_saved : (s : ThinSuper) (image : List (List ℕ)) (saving : Saving) → Saves s image saving → saved_left 8 root_of image saving.tops ≡ []
-    → pool_of (record { head = head_of s; devices = saving.devices.items; runs = saving.runs.items }) ≡ salvage_from s image
+    → pool_of (record { head = head_of s; devices = saving.devices.items; runs = saving.runs }) ≡ salvage_from s image
 unfolding pool_of salvage_from
 all_saved s image saving is none =
-    let devices : saved_devices saving.devices.items saving.runs.items ≡ devices_of s image (map (item_of root_of) (salvaged_entries 8 s.meta_map.blocks image s.mapping_root)) =
-    sym (append-nil (saved_devices saving.devices.items saving.runs.items)) ∙ (rw none at is.all) in
+    let devices : saved_devices saving.devices.items saving.runs ≡ devices_of s image (map (item_of root_of) (salvaged_entries 8 s.meta_map.blocks image s.mapping_root)) =
+    sym (append-nil (saved_devices saving.devices.items saving.runs)) ∙ (rw none at is.all) in
     rw (devices, devices_same s image (salvaged_entries 8 s.meta_map.blocks image s.mapping_root)) refl
 
 abbrev SavedEnds : SavedCursor Root → SavedCursor Root → List (List ℕ) → Type 0
 SavedEnds old new image = (saved_left 8 root_of image old ≡ []) × (saved_left 8 root_of image new ≡ [])
 
 pub all_told : (held : Option (List (List ℕ))) (saving : Saving) (tops : SavedCursor Root) → IfSome held (λ image. Saves saving.s image saving) → IfSome held (SavedEnds saving.tops tops)
-    → IfSome held (λ image. pool_of (record { head = head_of saving.s; devices = saving.devices.items; runs = saving.runs.items }) ≡ salvage_from saving.s image)
+    → IfSome held (λ image. pool_of (record { head = head_of saving.s; devices = saving.devices.items; runs = saving.runs }) ≡ salvage_from saving.s image)
 all_told held saving tops told ends =
     if_both held (λ image held_is is (none : SavedEnds saving.tops tops image). all_saved saving.s image saving is none.0) told ends
 
 -- what was saved is a lawful pool
-pub saved_is : (saving : Saving) → saving.s.data_map.blocks ≤ 2 ^ 40 → IsSaved saving.s.data_map.blocks saving.devices.items saving.runs.items → FitsHead (head_of saving.s)
+pub saved_is : (saving : Saving) → saving.s.data_map.blocks ≤ 2 ^ 40 → IsSaved saving.s.data_map.blocks saving.devices.items saving.runs → FitsHead (head_of saving.s)
     → IsSavedPool (saved_pool saving)
 unfolding pool_of
 saved_is saving few sound fits = record {

@@ -1,5 +1,5 @@
 pub mod Range
-pub mod Trail
+pub mod Way
 pub mod Steps
 pub mod Ascending
 pub mod Cursor

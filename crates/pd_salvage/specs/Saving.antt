@@ -27,7 +27,7 @@ head_of s = record { uuid = s.uuid; time = s.time; transaction = s.transaction; 
 
 -- what was saved so far
 abbrev pub saved_pool : Saving → SavedPool
-saved_pool saving = record { head = head_of saving.s; devices = saving.devices.items; runs = saving.runs.items }
+saved_pool saving = record { head = head_of saving.s; devices = saving.devices.items; runs = saving.runs }
 
 -- the devices of what was saved
 abbrev pub saved_devices : List SavedDevice → List Run → List ThinDevice
@@ -56,7 +56,7 @@ pub record IsStarted (s : ThinSuper) (saving : Saving) : Type 0 where
   pub fields : saving.s ≡ s
   pub ready : HasReadyCursors saving
   pub devices : saving.devices.items ≡ []
-  pub runs : saving.runs.items ≡ []
+  pub runs : saving.runs ≡ []
   pub tops_left : (image : List (List ℕ)) → saved_left 8 root_of image saving.tops ≡ map (item_of root_of) (salvaged_entries 8 s.meta_map.blocks image s.mapping_root)
   pub least : saved_least saving.tops ≡ 0
   pub details : (image : List (List ℕ)) → details_left image saving.details ≡ map (item_of details_of) (all_details s image)
@@ -109,8 +109,8 @@ pub record FitsHead (head : SavedHead) : Type 0 where
 
 -- one device more is saved
 pub record SavesDevice (held : Option (List (List ℕ))) (id root : ℕ) (old new : Saving) : Type 0 where
-  pub lawful : (least : ℕ) → least ≤ id → IsSaving old.s.data_map.blocks least old.devices.items old.runs.items
-      → IsSaving old.s.data_map.blocks (id + 1) new.devices.items new.runs.items
-  pub told : IfSome held (λ image. (least : ℕ) → least ≤ id → KnowsFrom least image old → runs_of_devices old.devices.items ≡ length old.runs.items
+  pub lawful : (least : ℕ) → least ≤ id → IsSaving old.s.data_map.blocks least old.devices.items old.runs
+      → IsSaving old.s.data_map.blocks (id + 1) new.devices.items new.runs
+  pub told : IfSome held (λ image. (least : ℕ) → least ≤ id → KnowsFrom least image old → runs_of_devices old.devices.items ≡ length old.runs
       → KnowsFrom (id + 1) image new
-      × (saved_devices new.devices.items new.runs.items ≡ saved_devices old.devices.items old.runs.items ++ salvaged_device old.s image (record { key = id; value = root }) ∷ []))
+      × (saved_devices new.devices.items new.runs ≡ saved_devices old.devices.items old.runs ++ salvaged_device old.s image (record { key = id; value = root }) ∷ []))

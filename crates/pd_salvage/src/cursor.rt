@@ -4,8 +4,8 @@ ghost use Rattle.std.specs.Prelude.{◌≡◌};
 ghost use Rattle.std.specs.Option.{ForSome};
 
 use crate::range::Range;
-use crate::trail::Trail;
-use crate::walk::next_entry;
+use crate::walk::{enter, next_entry};
+use crate::way::Way;
 use pd_image::{Device, Failed};
 use pd_value::Value;
 use std::alloc::{AllocError, Global};
@@ -22,13 +22,15 @@ const KEYS_END: u128 = 18446744073709551616;
 /// before it. Over any device the keys ascend.
 #[derive(Drop)]
 pub struct SavedCursor<V> {
-    trail: Trail,
+    way: Way,
+    /// The number of metadata blocks.
+    nr: u64,
     /// The root, until it was read.
     root: Option<u64>,
     /// The least key that may come: one above that of the last entry.
     least: u128,
     of: PhantomData<V>,
-    ghost fresh: { ForSome root (λ _. trail.stack.depth ≡ 0) },
+    ghost fresh: { ForSome root (λ _. way.stack.depth ≡ 0) },
 }
 
 impl<V: Value> SavedCursor<V> {
@@ -41,7 +43,7 @@ impl<V: Value> SavedCursor<V> {
     ghost use Rattle.pd_tree.specs.Next.{IsNext};
     ghost use Rattle.pd_salvage.specs.Cursor.{saved_left, saved_least, saved_number, saved_room};
     ghost use Rattle.pd_salvage.specs.Range.{all_keys, saved_below};
-    ghost use Rattle.pd_salvage.specs.Trail.{trail_left, trail_number};
+    ghost use Rattle.pd_salvage.specs.Way.{saved_on, way_number};
 
     /// A cursor before the first entry of the tree with this root, of a pool with so many metadata blocks. It
     /// reserves all memory that the cursor needs: 64 places of about 4136 bytes.
@@ -53,7 +55,8 @@ impl<V: Value> SavedCursor<V> {
         ensures room { IfOk result (λ cursor. saved_room cursor ≡ nr) }
     {
         Ok(SavedCursor {
-            trail: Trail::new(alloc, nr)?,
+            way: Way::new(alloc)?,
+            nr,
             root: Some(root),
             least: 0,
             of: PhantomData,
@@ -67,7 +70,8 @@ impl<V: Value> SavedCursor<V> {
         ensures least { saved_least self.new ≡ 0 }
         ensures room { saved_room self.new ≡ nr }
     {
-        self.trail.clear(nr);
+        self.way.clear();
+        self.nr = nr;
         self.root = Some(root);
         self.least = 0;
     }
@@ -90,7 +94,7 @@ impl<V: Value> SavedCursor<V> {
         ensures faults { CountsFault result (D.state dev.old).faults (D.state dev.new).faults }
     {
         self.enter_root(dev)?;
-        match next_entry(&mut self.trail, dev, self.least)? {
+        match next_entry(&mut self.way, dev, self.nr, self.least)? {
             Some((key, value)) => {
                 self.least = key as u128 + 1;
                 Ok(Some((key, value)))
@@ -103,9 +107,9 @@ impl<V: Value> SavedCursor<V> {
     fn enter_root<D: Device>(&mut self, dev: &mut D) -> Result<(), Failed>
         requires attached { IsAttached (D.state dev.old) }
         requires within { saved_room self.old ≤ (D.state dev.old).blocks }
-        ensures left { OnOk result (IfSome (D.state dev.old).held (λ image. trail_left V.SIZE V.decoded image self.new.trail
-            ≡ root_left (saved_below V.SIZE V.decoded self.old.trail.nr image 64 all_keys) self.old.root ++ trail_left V.SIZE V.decoded image self.old.trail)) }
-        ensures number { OnOk result (trail_number V.SIZE self.new.trail ≤ saved_number V.SIZE self.old) }
+        ensures left { OnOk result (IfSome (D.state dev.old).held (λ image. saved_on V.SIZE V.decoded self.new.nr image self.new.way
+            ≡ root_left (saved_below V.SIZE V.decoded self.old.nr image 64 all_keys) self.old.root ++ saved_on V.SIZE V.decoded self.old.nr image self.old.way)) }
+        ensures number { OnOk result (way_number V.SIZE self.new.way ≤ saved_number V.SIZE self.old) }
         ensures entered { self.new.root ≡ None }
         ensures same { (self.new.least ≡ self.old.least) × (saved_room self.new ≡ saved_room self.old) }
         ensures kept { OnlyReads (D.state dev.old) (D.state dev.new) }
@@ -117,7 +121,7 @@ impl<V: Value> SavedCursor<V> {
                     low: 0,
                     high: KEYS_END,
                 };
-                self.trail.enter::<V, D>(dev, root, all)
+                enter::<V, D>(&mut self.way, dev, self.nr, root, all)
             }
             None => Ok(()),
         }

@@ -10,6 +10,7 @@ use crate::cursor::SavedCursor;
 use crate::joined::Joining;
 use crate::saved::SalvageFault;
 use pd_image::Device;
+use pd_runs::PackedRuns;
 use pd_thin_meaning::Run;
 use pd_value::BlockTime;
 use std::alloc::AllocError;
@@ -40,11 +41,16 @@ impl Gathering {
     ghost use Rattle.pd_salvage.specs.Gather.{IsGathering};
 
     /// Takes the next mapping, and adds the run before it where the mapping doesn't follow that.
-    fn take(&mut self, runs: &mut Vec<Run>, virt: u64, mapping: BlockTime) -> Result<(), AllocError>
+    fn take(
+        &mut self,
+        runs: &mut PackedRuns,
+        virt: u64,
+        mapping: BlockTime,
+    ) -> Result<(), AllocError>
         requires { mapping.block < 2 ^ 40 }
         ensures fits { virt < 2 ^ 64 }
-        ensures takes { OnOk result ((before : List Run) (ms : List Mapping) → IsGathering before runs.old.items self.old ms
-            → IsGathering before runs.new.items self.new (ms ++ mapping_of (virt, mapping) ∷ [])) }
+        ensures takes { OnOk result ((before : List Run) (ms : List Mapping) → IsGathering before runs.old self.old ms
+            → IsGathering before runs.new self.new (ms ++ mapping_of (virt, mapping) ∷ [])) }
     {
         if self.mapped == u64::MAX {
             return Err(AllocError);
@@ -60,12 +66,12 @@ pub(crate) fn gather<D: Device>(
     mappings: &mut SavedCursor<BlockTime>,
     dev: &mut D,
     blocks: u64,
-    runs: &mut Vec<Run>,
+    runs: &mut PackedRuns,
 ) -> Result<u64, SalvageFault>
     requires attached { IsAttached (D.state dev.old) }
     requires within { saved_room mappings.old ≤ (D.state dev.old).blocks }
     requires few { blocks ≤ 2 ^ 40 }
-    ensures gathered { IfOk result (λ mapped. IsGathered blocks (saved_least mappings.old) mapped (D.state dev.old).held (λ image. to_come blocks image mappings.old) runs.old.items runs.new.items) }
+    ensures gathered { IfOk result (λ mapped. IsGathered blocks (saved_least mappings.old) mapped (D.state dev.old).held (λ image. to_come blocks image mappings.old) runs.old runs.new) }
     ensures room { saved_room mappings.new ≡ saved_room mappings.old }
     ensures kept { OnlyReads (D.state dev.old) (D.state dev.new) }
     ensures faults { CountsSalvage result (D.state dev.old).faults (D.state dev.new).faults }

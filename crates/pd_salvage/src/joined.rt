@@ -4,6 +4,7 @@ ghost use Rattle.std.specs.Prelude.{◌≡◌};
 ghost use Rattle.pd_spells.specs.ThinText.{continues_run};
 ghost use Rattle.pd_thin_meaning.specs.Joined.{spelled};
 
+use pd_runs::PackedRuns;
 use pd_thin_meaning::Run;
 use std::alloc::AllocError;
 
@@ -32,10 +33,10 @@ impl Joining {
     ghost use Rattle.pd_salvage.specs.Gather.{HasRuns, IsJoining, Takes};
 
     /// Takes the next run, and adds the one before it where it doesn't follow that.
-    pub fn take(&mut self, runs: &mut Vec<Run>, next: Run) -> Result<(), AllocError>
+    pub fn take(&mut self, runs: &mut PackedRuns, next: Run) -> Result<(), AllocError>
         requires some { 1 ≤ next.length }
         requires fits { next.target + next.length ≤ 2 ^ 40 }
-        ensures { OnOk result (Takes (mappings_of (spelled next)) runs.old.items runs.new.items self.old self.new) }
+        ensures { OnOk result (Takes (mappings_of (spelled next)) runs.old runs.new self.old self.new) }
     {
         match self.begun {
             Some(mut begun) => {
@@ -53,8 +54,8 @@ impl Joining {
     }
 
     /// Adds the last run, if there is any.
-    pub fn end(&mut self, runs: &mut Vec<Run>) -> Result<(), AllocError>
-        ensures { OnOk result ((before : List Run) (ms : List Mapping) → IsJoining before runs.old.items self.old ms → HasRuns before runs.new.items ms) }
+    pub fn end(&mut self, runs: &mut PackedRuns) -> Result<(), AllocError>
+        ensures { OnOk result ((before : List Run) (ms : List Mapping) → IsJoining before runs.old self.old ms → HasRuns before runs.new ms) }
     {
         if let Some(begun) = self.begun {
             runs.push(begun)?;

@@ -13,8 +13,8 @@ mod range;
 mod saved;
 mod saved_shape;
 mod saving;
-mod trail;
 mod walk;
+mod way;
 
 pub use cursor::SavedCursor;
 pub use details::SavedDetails;
@@ -24,4 +24,4 @@ pub use range::Range;
 pub use saved::{Salvage, SalvageFault, SavedDevice, SavedHead};
 pub use saved_shape::{SavedLeaf, SavedPiece, SavedShape, ShapedDevice};
 pub use saving::{head_of, is_inside, lost_details};
-pub use trail::{is_sound, is_wanted};
+pub use way::{Taken, Way, is_sound, is_wanted};

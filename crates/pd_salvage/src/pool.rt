@@ -14,7 +14,7 @@ use std::alloc::Global;
 
 /// All that can be saved of the pool with this superblock.
 ///
-/// It takes the memory of three cursors over trees, 40 bytes a device and 32 a run of mappings.
+/// It takes the memory of three cursors over trees, 40 bytes a device, and for a run of mappings some 4 and at most 35.
 ///
 /// Fails with `Device` where a read failed, and with `Memory` where that memory wasn't found.
 pub fn salvage<D: Device>(

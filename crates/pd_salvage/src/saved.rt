@@ -2,7 +2,7 @@
 
 ghost use Rattle.std.specs.Prelude.{◌≡◌};
 
-use pd_thin_meaning::Run;
+use pd_runs::PackedRuns;
 use pd_value::Details;
 use std::marker::Model;
 
@@ -41,14 +41,14 @@ pub struct SavedDevice {
     pub runs: usize,
 }
 
-/// What was saved of a pool, held in memory: 40 bytes a device and 32 a run.
+/// What was saved of a pool, held in memory: 40 bytes a device, and for a run some 4 and at most 35.
 ///
 /// It is a lawful pool: ids and virtual blocks ascend, and each number fits its place.
 #[derive(Drop)]
 pub struct Salvage {
     pub(crate) head: SavedHead,
     pub(crate) devices: Vec<SavedDevice>,
-    pub(crate) runs: Vec<Run>,
+    pub(crate) runs: PackedRuns,
 }
 
 impl Model for Salvage {
@@ -56,18 +56,18 @@ impl Model for Salvage {
 
     ghost Value = { SavedPool };
 
-    ghost view = { λ s. record { head = s.head; devices = s.devices.items; runs = s.runs.items } };
+    ghost view = { λ s. record { head = s.head; devices = s.devices.items; runs = s.runs } };
 
-    ghost invariant = { λ s. IsSavedPool (record { head = s.head; devices = s.devices.items; runs = s.runs.items }) };
+    ghost invariant = { λ s. IsSavedPool (record { head = s.head; devices = s.devices.items; runs = s.runs }) };
 }
 
 impl Salvage {
     ghost use Rattle.pd_salvage.specs.Saved.{IsSavedPool};
 
     /// A pool of this head, these devices and these runs.
-    pub fn of_parts(head: SavedHead, devices: Vec<SavedDevice>, runs: Vec<Run>) -> Salvage
-        requires { IsSavedPool (record { head = head; devices = devices.items; runs = runs.items }) }
-        ensures { result ≡ record { head = head; devices = devices.items; runs = runs.items } }
+    pub fn of_parts(head: SavedHead, devices: Vec<SavedDevice>, runs: PackedRuns) -> Salvage
+        requires { IsSavedPool (record { head = head; devices = devices.items; runs = runs }) }
+        ensures { result ≡ record { head = head; devices = devices.items; runs = runs } }
     {
         Salvage {
             head,
@@ -93,7 +93,7 @@ impl Salvage {
     }
 
     /// The runs of all devices, by ascending virtual block, those of the first device first.
-    pub fn runs(&self) -> &[Run]
+    pub fn runs(&self) -> &PackedRuns
         ensures { result.now ≡ self.now.runs }
     {
         &self.runs

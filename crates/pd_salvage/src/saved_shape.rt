@@ -3,7 +3,7 @@
 ghost use Rattle.std.specs.Prelude.{◌≡◌};
 
 use crate::saved::SavedHead;
-use pd_thin_meaning::Run;
+use pd_runs::PackedRuns;
 use pd_value::Details;
 use std::marker::Model;
 
@@ -36,18 +36,18 @@ pub struct ShapedDevice {
     pub pieces: usize,
 }
 
-/// A pool that is held in memory with its shared leaves: 16 bytes a leaf, 8 a piece, 48 a device and 32 a run. A shared
-/// leaf's runs stand in it once.
+/// A pool that is held in memory with its shared leaves: 16 bytes a leaf, 8 a piece, 48 a device, and for a run some 4 and
+/// at most 35. A shared leaf's runs stand in it once. Each of its two lists of runs may have room for 64 KiB more.
 ///
 /// It is a shape whose meaning is a lawful pool.
 #[derive(Drop)]
 pub struct SavedShape {
     head: SavedHead,
     leaves: Vec<SavedLeaf>,
-    leaf_runs: Vec<Run>,
+    leaf_runs: PackedRuns,
     devices: Vec<ShapedDevice>,
     pieces: Vec<SavedPiece>,
-    runs: Vec<Run>,
+    runs: PackedRuns,
 }
 
 impl Model for SavedShape {
@@ -58,19 +58,19 @@ impl Model for SavedShape {
     ghost view = { λ s. record {
       head = s.head;
       leaves = s.leaves.items;
-      leaf_runs = s.leaf_runs.items;
+      leaf_runs = s.leaf_runs;
       devices = s.devices.items;
       pieces = s.pieces.items;
-      runs = s.runs.items;
+      runs = s.runs;
     } };
 
     ghost invariant = { λ s. IsSavedShape (record {
       head = s.head;
       leaves = s.leaves.items;
-      leaf_runs = s.leaf_runs.items;
+      leaf_runs = s.leaf_runs;
       devices = s.devices.items;
       pieces = s.pieces.items;
-      runs = s.runs.items;
+      runs = s.runs;
     }) };
 }
 
@@ -82,13 +82,13 @@ impl SavedShape {
     pub fn of_parts(
         head: SavedHead,
         leaves: Vec<SavedLeaf>,
-        leaf_runs: Vec<Run>,
+        leaf_runs: PackedRuns,
         devices: Vec<ShapedDevice>,
         pieces: Vec<SavedPiece>,
-        runs: Vec<Run>,
+        runs: PackedRuns,
     ) -> SavedShape
-        requires { IsSavedShape (held head leaves.items leaf_runs.items devices.items pieces.items runs.items) }
-        ensures { result ≡ held head leaves.items leaf_runs.items devices.items pieces.items runs.items }
+        requires { IsSavedShape (held head leaves.items leaf_runs devices.items pieces.items runs) }
+        ensures { result ≡ held head leaves.items leaf_runs devices.items pieces.items runs }
     {
         SavedShape {
             head,
@@ -117,7 +117,7 @@ impl SavedShape {
     }
 
     /// The runs of all shared leaves, by ascending virtual block, those of the first leaf first.
-    pub fn leaf_runs(&self) -> &[Run]
+    pub fn leaf_runs(&self) -> &PackedRuns
         ensures { result.now ≡ self.now.leaf_runs }
     {
         &self.leaf_runs
@@ -138,7 +138,7 @@ impl SavedShape {
     }
 
     /// The runs of all own pieces, by ascending virtual block, those of the first piece first.
-    pub fn runs(&self) -> &[Run]
+    pub fn runs(&self) -> &PackedRuns
         ensures { result.now ≡ self.now.runs }
     {
         &self.runs

@@ -11,7 +11,7 @@ use crate::gather::gather;
 use crate::saved::{Salvage, SalvageFault, SavedDevice, SavedHead};
 use pd_image::Device;
 use pd_kinds::ThinSuper;
-use pd_thin_meaning::Run;
+use pd_runs::PackedRuns;
 use pd_value::{BlockTime, Details, Root};
 use std::alloc::{AllocError, Global};
 
@@ -23,7 +23,7 @@ pub(crate) struct Saving {
     details: SavedDetails,
     mappings: SavedCursor<BlockTime>,
     devices: Vec<SavedDevice>,
-    runs: Vec<Run>,
+    runs: PackedRuns,
 }
 
 impl Saving {
@@ -48,7 +48,7 @@ impl Saving {
             details,
             mappings,
             devices: Vec::new(alloc),
-            runs: Vec::new(alloc),
+            runs: PackedRuns::new(alloc),
         })
     }
 
@@ -58,7 +58,7 @@ impl Saving {
         requires within { self.old.s.meta_map.blocks ≤ (D.state dev.old).blocks }
         requires few { self.old.s.data_map.blocks ≤ 2 ^ 40 }
         requires started { IsStarted self.old.s self.old }
-        ensures sound { OnOk result (IsSaved self.new.s.data_map.blocks self.new.devices.items self.new.runs.items) }
+        ensures sound { OnOk result (IsSaved self.new.s.data_map.blocks self.new.devices.items self.new.runs) }
         ensures saved { OnOk result (IfSome (D.state dev.old).held (λ image. pool_of (saved_pool self.new) ≡ salvage_from self.old.s image)) }
         ensures same { self.new.s ≡ self.old.s }
         ensures kept { OnlyReads (D.state dev.old) (D.state dev.new) }
@@ -117,7 +117,7 @@ impl Saving {
     /// What was saved.
     pub(crate) fn saved(self) -> Salvage
         requires few { self.s.data_map.blocks ≤ 2 ^ 40 }
-        requires sound { IsSaved self.s.data_map.blocks self.devices.items self.runs.items }
+        requires sound { IsSaved self.s.data_map.blocks self.devices.items self.runs }
         ensures { result ≡ saved_pool self }
     {
         let head = head_of(&self.s);

@@ -1,36 +1,67 @@
 //! The search for the next entry that is saved.
 
-ghost use Rattle.std.specs.Prelude.{◌≡◌, ◌<◌, ◌≤◌, true, IfOk, IfSome};
+ghost use Rattle.std.specs.Prelude.{◌≡◌, ◌+◌, ◌-◌, ◌<◌, ◌≤◌, ◌++◌, true, OnOk, IfOk, IfSome};
 ghost use Rattle.pd_kinds.specs.Objects.{CountsFault};
 ghost use Rattle.pd_image.specs.Device.{IsAttached, OnlyReads};
+ghost use Rattle.pd_tree.specs.Stack.{child_weight};
 ghost use Rattle.pd_salvage.specs.Ascending.{IsNextFrom};
-ghost use Rattle.pd_salvage.specs.Trail.{trail_left, trail_number};
+ghost use Rattle.pd_salvage.specs.Range.{saved_below};
+ghost use Rattle.pd_salvage.specs.Way.{saved_on, way_number};
 
-use crate::trail::{Taken, Trail};
+use crate::range::Range;
+use crate::way::{Taken, Way, is_sound, is_wanted};
 use pd_image::{Device, Failed};
 use pd_value::Value;
 
-/// Goes on to the next entry whose key is at least this, and reads the nodes on the way to it.
-pub(crate) fn next_entry<V: Value, D: Device>(
-    trail: &mut Trail,
+/// Reads the node into the next place on the way, if it lies in the metadata, of so many blocks, has a range of keys and
+/// is undamaged.
+pub(crate) fn enter<V: Value, D: Device>(
+    way: &mut Way,
     dev: &mut D,
-    least: u128,
-) -> Result<Option<(u64, V)>, Failed>
+    nr: u64,
+    b: u64,
+    range: Range,
+) -> Result<(), Failed>
     requires attached { IsAttached (D.state dev.old) }
-    requires within { trail.old.nr ≤ (D.state dev.old).blocks }
-    ensures next { IfOk result (λ entry. IfSome (D.state dev.old).held (λ image.
-        IsNextFrom least entry (trail_left V.SIZE V.decoded image trail.old) (trail_left V.SIZE V.decoded image trail.new))) }
-    ensures from { IfOk result (λ entry. IfSome entry (λ item. least ≤ item.0)) }
-    ensures fits { IfOk result (λ entry. IfSome entry (λ item. V.fitting item.1 ≡ true)) }
-    ensures number { IfOk result (λ entry. IfSome entry (λ _. trail_number V.SIZE trail.new < trail_number V.SIZE trail.old)) }
-    ensures same { trail.new.nr ≡ trail.old.nr }
+    requires within { nr ≤ (D.state dev.old).blocks }
+    requires room { way.old.stack.depth < 64 }
+    ensures left { OnOk result (IfSome (D.state dev.old).held (λ image.
+        saved_on V.SIZE V.decoded nr image way.new ≡ saved_below V.SIZE V.decoded nr image (64 - way.old.stack.depth) range b ++ saved_on V.SIZE V.decoded nr image way.old)) }
+    ensures number { OnOk result (way_number V.SIZE way.new < way_number V.SIZE way.old + child_weight (64 - way.old.stack.depth)) }
     ensures kept { OnlyReads (D.state dev.old) (D.state dev.new) }
     ensures faults { CountsFault result (D.state dev.old).faults (D.state dev.new).faults }
 {
-    while !trail.is_empty() {
-        match trail.step::<V>() {
+    if !is_wanted(b, &range, nr) {
+        return Ok(());
+    }
+    way.push::<V, D>(dev, b, range)?;
+    if !is_sound::<V>(way.top(), b) {
+        way.pop();
+    }
+    Ok(())
+}
+
+/// Goes on to the next entry whose key is at least this, and reads the nodes on the way to it.
+pub(crate) fn next_entry<V: Value, D: Device>(
+    way: &mut Way,
+    dev: &mut D,
+    nr: u64,
+    least: u128,
+) -> Result<Option<(u64, V)>, Failed>
+    requires attached { IsAttached (D.state dev.old) }
+    requires within { nr ≤ (D.state dev.old).blocks }
+    ensures next { IfOk result (λ entry. IfSome (D.state dev.old).held (λ image.
+        IsNextFrom least entry (saved_on V.SIZE V.decoded nr image way.old) (saved_on V.SIZE V.decoded nr image way.new))) }
+    ensures from { IfOk result (λ entry. IfSome entry (λ item. least ≤ item.0)) }
+    ensures fits { IfOk result (λ entry. IfSome entry (λ item. V.fitting item.1 ≡ true)) }
+    ensures number { IfOk result (λ entry. IfSome entry (λ _. way_number V.SIZE way.new < way_number V.SIZE way.old)) }
+    ensures kept { OnlyReads (D.state dev.old) (D.state dev.new) }
+    ensures faults { CountsFault result (D.state dev.old).faults (D.state dev.new).faults }
+{
+    while !way.is_empty() {
+        match way.step::<V>() {
             Taken::Passed => {}
-            Taken::Child(b, range) => trail.enter::<V, D>(dev, b, range)?,
+            Taken::Child(b, range) => enter::<V, D>(way, dev, nr, b, range)?,
             Taken::Entry(key, value) => {
                 if key as u128 >= least {
                     return Ok(Some((key, value)));

@@ -20,7 +20,7 @@ loop-virt-preserved-in-Ok g c =
     let ascends = rw c.in-Ok-Some.field-0-is at c.in-Ok-Some.ensures.ascends in
     let kept = c.loop-virt.invariant.kept in
     let reads = c.in-Ok-Some.ensures.kept in
-    let taken = c.in-Ok.ensures.takes c.args.runs.now.items gathers.ms gathers.gathered in
+    let taken = c.in-Ok.ensures.takes c.args.runs.now gathers.ms gathers.gathered in
     let comes =
     IfSome_then (g.D.Device.state c.args.dev.now).held
     (subst (λ o. IfSome o (λ image. IsNext (Some (virt, value)) (saved_left 8 block_time_of image now) (saved_left 8 block_time_of image later))) kept.held (rw c.in-Ok-Some.field-0-is at c.in-Ok-Some.ensures.next))
@@ -29,9 +29,9 @@ loop-virt-preserved-in-Ok g c =
       gathers =
           takes_mapping blocks (saved_least c.args.mappings.now) (g.D.Device.state c.args.dev.now).held
           (λ image. to_come blocks image c.args.mappings.now) (λ image. to_come blocks image now) (λ image. to_come blocks image later)
-          (saved_least now) (saved_least later) c.args.runs.now.items c.loop-virt.runs.items c.loop-virt.gathering gathers virt value
+          (saved_least now) (saved_least later) c.args.runs.now c.loop-virt.runs c.loop-virt.gathering gathers virt value
           ascends.0 ascends.1
-          c.take.new.runs.items c.take.new.self taken
+          c.take.new.runs c.take.new.self taken
           c.in-Ok.ensures.fits c.if-mapping-blocks.true (time_below value (rw c.in-Ok-Some.field-0-is at c.in-Ok-Some.ensures.fits)) comes;
       room = c.in-Ok-Some.ensures.room ∙ c.loop-virt.invariant.room;
       kept = only_reads_both kept reads;
@@ -58,7 +58,7 @@ loop-virt-preserved g c =
       gathers =
           skips_mapping blocks (saved_least c.args.mappings.now) (g.D.Device.state c.args.dev.now).held
           (λ image. to_come blocks image c.args.mappings.now) (λ image. to_come blocks image now) (λ image. to_come blocks image later)
-          (saved_least now) (saved_least later) c.args.runs.now.items c.loop-virt.runs.items c.loop-virt.gathering gathers virt value
+          (saved_least now) (saved_least later) c.args.runs.now c.loop-virt.runs c.loop-virt.gathering gathers virt value
           ascends.0 ascends.1 comes;
       room = c.in-Ok-Some.ensures.room ∙ c.loop-virt.invariant.room;
       kept = only_reads_both kept reads;
@@ -78,5 +78,5 @@ returns-in-Ok-end-clause-gathered g c =
     (λ image next. comes_none blocks (saved_left 8 block_time_of image now) (saved_left 8 block_time_of image later) next) in
     all_gathered blocks (saved_least c.args.mappings.now) (g.D.Device.state c.args.dev.now).held
     (λ image. to_come blocks image c.args.mappings.now) (λ image. to_come blocks image now) (saved_least now)
-    c.args.runs.now.items c.loop-virt.runs.items c.end.new.runs.items c.loop-virt.gathering c.loop-virt.gathering.mapped gathers
-    (c.in-Ok-end.ensures c.args.runs.now.items gathers.ms gathers.gathered.joining) refl ends
+    c.args.runs.now c.loop-virt.runs c.end.new.runs c.loop-virt.gathering c.loop-virt.gathering.mapped gathers
+    (c.in-Ok-end.ensures c.args.runs.now gathers.ms gathers.gathered.joining) refl ends

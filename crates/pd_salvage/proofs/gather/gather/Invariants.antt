@@ -10,7 +10,7 @@ abbrev pub invariant-loop-virt : goal.invariant-loop-virt
 invariant-loop-virt g l = record {
   gathers :
       Gathers l.blocks (saved_least l.initial.mappings) (g.D.Device.state l.initial.dev).held (λ image. to_come l.blocks image l.initial.mappings) (λ image. to_come l.blocks image l.mappings)
-      (saved_least l.mappings) l.initial.runs.items l.runs.items l.gathering;
+      (saved_least l.mappings) l.initial.runs l.runs l.gathering;
   room : saved_room l.mappings ≡ saved_room l.initial.mappings;
   kept : OnlyReads (g.D.Device.state l.initial.dev) (g.D.Device.state l.dev);
   faults : (g.D.Device.state l.dev).faults ≡ (g.D.Device.state l.initial.dev).faults;

@@ -62,14 +62,14 @@ loop-id-preserved g c =
 
 pub returns-in-Ok-None-clause-sound : goal.returns-in-Ok-None-clause-sound
 returns-in-Ok-None-clause-sound g c =
-    all_sound c.loop-id.self.s.data_map.blocks (saved_least c.loop-id.self.tops) c.loop-id.self.devices.items c.loop-id.self.runs.items c.loop-id.invariant.saving
+    all_sound c.loop-id.self.s.data_map.blocks (saved_least c.loop-id.self.tops) c.loop-id.self.devices.items c.loop-id.self.runs c.loop-id.invariant.saving
 
 pub returns-in-Ok-None-clause-saved : goal.returns-in-Ok-None-clause-saved
 returns-in-Ok-None-clause-saved g c =
     let inv = c.loop-id.invariant in
     let old = c.loop-id.self in
     let held = (g.D.Device.state c.args.dev.now).held in
-    subst (λ s. IfSome held (λ image. pool_of (record { head = head_of old.s; devices = old.devices.items; runs = old.runs.items }) ≡ salvage_from s image)) inv.same
+    subst (λ s. IfSome held (λ image. pool_of (record { head = head_of old.s; devices = old.devices.items; runs = old.runs }) ≡ salvage_from s image)) inv.same
     (all_told held old c.next.new.self inv.told
     (subst (λ o. IfSome o (λ image. IsNext {X = ℕ × Root} None (saved_left 8 root_of image old.tops) (saved_left 8 root_of image c.next.new.self))) inv.kept.held
     (rw c.in-Ok-None.field-0-is at c.in-Ok-None.ensures.next)))

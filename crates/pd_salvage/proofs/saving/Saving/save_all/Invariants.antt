@@ -8,7 +8,7 @@ use Rattle.pd_salvage.proofs.saving.Saving.save_all.Given as goal
 -- the devices that were saved and those that are left are those that were left at the start
 abbrev pub invariant-loop-id : goal.invariant-loop-id
 invariant-loop-id g l = record {
-  saving : IsSaving l.self.s.data_map.blocks (saved_least l.self.tops) l.self.devices.items l.self.runs.items;
+  saving : IsSaving l.self.s.data_map.blocks (saved_least l.self.tops) l.self.devices.items l.self.runs;
   told : IfSome (g.D.Device.state l.initial.dev).held (λ image. Saves l.self.s image l.self);
   ready : HasReadyCursors l.self;
   same : l.self.s ≡ l.initial.self.s;

@@ -7,7 +7,7 @@ use Rattle.pd_salvage.proofs.saving.Saving.save_device.Goals as goal
 pub returns-in-Ok-add_device-clause-saves : goal.returns-in-Ok-add_device-clause-saves
 returns-in-Ok-add_device-clause-saves g c =
     let gathered = rw c.in-Ok.ensures.kept.held at c.in_ok-mapped.ensures.gathered in
-    let count = ap length gathered.runs_are ∙ length-append c.args.self.now.runs.items gathered.given in
+    let count = ap length gathered.runs_are ∙ length-append c.args.self.now.runs gathered.given in
     let number : c.len.result - c.len-first.result ≡ length gathered.given =
     rw (c.len.ensures, c.len-first.ensures) (omega (arith, count)) in
     saves_device (g.D.Device.state c.args.dev.now).held c.args.id c.args.root c.in_ok-mapped.mapped (c.len.result - c.len-first.result) c.in-Ok.details c.args.self.now

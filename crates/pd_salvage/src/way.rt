@@ -1,4 +1,4 @@
-//! The nodes on the way from the root of a tree to its next entry that is saved.
+//! The nodes on the way from the root of a tree to what comes next.
 
 ghost use Rattle.std.specs.Prelude.{◌≡◌, not};
 ghost use Rattle.std.specs.Vec.{vec_len};
@@ -13,93 +13,101 @@ use pd_tree::{LEVELS, Stack, Step};
 use pd_value::Value;
 use std::alloc::{AllocError, Global};
 
-/// The way to the next entry, with the keys that are wanted of each node.
+/// The way to what comes next, with the keys that are wanted of each node.
+///
+/// It is for a caller who looks at each node and may forget it. The memory of 64 nodes is reserved in `new`.
 #[derive(Drop)]
-pub(crate) struct Trail {
+pub struct Way {
     stack: Stack,
     ranges: Vec<Range>,
-    /// The number of metadata blocks.
-    nr: u64,
     ghost ranges_are: { vec_len ranges ≡ 64 },
 }
 
 /// What a step takes.
 #[derive(Clone, Copy)]
-pub(crate) enum Taken<V> {
+pub enum Taken<V> {
     /// Nothing: a node that nothing is left of, a child that is too deep, or an entry that isn't wanted.
     Passed,
-    /// The block of a child that is to be read, and the keys that are wanted of it.
+    /// The block of a child, and the keys that are wanted of it.
     Child(u64, Range),
     /// An entry.
     Entry(u64, V),
 }
 
-impl Trail {
-    ghost use Rattle.std.specs.Prelude.{◌≡◌, ◌+◌, ◌-◌, ◌<◌, ◌≤◌, ◌++◌, ◌↔◌, IsTrue, OnOk, IfOk, IfSome};
+impl Way {
+    ghost use Rattle.std.specs.Prelude.{◌≡◌, ◌-◌, ◌<◌, ◌↔◌, IsTrue, OnOk, IfOk};
     ghost use Rattle.pd_kinds.specs.Objects.{CountsFault};
     ghost use Rattle.pd_image.specs.Device.{IsAttached, OnlyReads};
-    ghost use Rattle.pd_tree.specs.Stack.{child_weight};
-    ghost use Rattle.pd_salvage.specs.Range.{saved_below};
-    ghost use Rattle.pd_salvage.specs.Trail.{range_at, trail_left, trail_number};
-    ghost use Rattle.pd_salvage.specs.Steps.{StepsOnTrail};
+    ghost use Rattle.pd_tree.specs.Stack.{last_place};
+    ghost use Rattle.pd_salvage.specs.Way.{range_at};
+    ghost use Rattle.pd_salvage.specs.Steps.{PopsNode, PushesNode, StepsOnWay};
 
     /// No node, and memory reserved for `LEVELS` of them.
-    pub(crate) fn new(alloc: Global, nr: u64) -> Result<Trail, AllocError>
-        ensures { IfOk result (λ trail. (trail.stack.depth ≡ 0) × (trail.nr ≡ nr)) }
+    ///
+    /// Fails with `AllocError` where that memory wasn't found.
+    pub fn new(alloc: Global) -> Result<Way, AllocError>
+        ensures { IfOk result (λ way. way.stack.depth ≡ 0) }
     {
         let stack = Stack::new(alloc)?;
         let ranges = vec![in alloc; Range { low: 0, high: 0 }; LEVELS]?;
-        Ok(Trail { stack, ranges, nr })
+        Ok(Way { stack, ranges })
     }
 
     /// Whether nothing is left.
-    pub(crate) fn is_empty(&self) -> bool
+    pub fn is_empty(&self) -> bool
         ensures { IsTrue result ↔ (self.now.stack.depth ≡ 0) }
     {
         self.stack.is_empty()
     }
 
-    /// Forgets all nodes, with so many metadata blocks from now on.
-    pub(crate) fn clear(&mut self, nr: u64)
-        ensures { (self.new.stack.depth ≡ 0) × (self.new.nr ≡ nr) }
+    /// Forgets all nodes.
+    pub fn clear(&mut self)
+        ensures { self.new.stack.depth ≡ 0 }
     {
         self.stack.clear();
-        self.nr = nr;
     }
 
-    /// Reads the node into the next place, if it lies in the metadata, has a range of keys and is undamaged.
-    pub(crate) fn enter<V: Value, D: Device>(
+    /// Reads a block into the next place, with the keys that are wanted of it.
+    ///
+    /// Fails with `Failed` where the read failed; then nothing is said of what is left.
+    pub fn push<V: Value, D: Device>(
         &mut self,
         dev: &mut D,
         b: u64,
         range: Range,
     ) -> Result<(), Failed>
         requires attached { IsAttached (D.state dev.old) }
-        requires within { self.old.nr ≤ (D.state dev.old).blocks }
+        requires within { b < (D.state dev.old).blocks }
         requires room { self.old.stack.depth < 64 }
-        ensures left { OnOk result (IfSome (D.state dev.old).held (λ image.
-            trail_left V.SIZE V.decoded image self.new ≡ saved_below V.SIZE V.decoded self.old.nr image (64 - self.old.stack.depth) range b ++ trail_left V.SIZE V.decoded image self.old)) }
-        ensures number { OnOk result (trail_number V.SIZE self.new < trail_number V.SIZE self.old + child_weight (64 - self.old.stack.depth)) }
-        ensures same { self.new.nr ≡ self.old.nr }
+        ensures pushes { OnOk result (PushesNode V.SIZE (D.state dev.old).held b range self.old self.new) }
         ensures kept { OnlyReads (D.state dev.old) (D.state dev.new) }
         ensures faults { CountsFault result (D.state dev.old).faults (D.state dev.new).faults }
     {
-        if !is_wanted(b, &range, self.nr) {
-            return Ok(());
-        }
         self.ranges[self.stack.depth()] = range;
         self.stack.push::<V, D>(dev, b)?;
-        if !is_sound::<V>(self.stack.top(), b) {
-            self.stack.pop();
-        }
         Ok(())
     }
 
-    /// Goes on at the last node.
-    pub(crate) fn step<V: Value>(&mut self) -> Taken<V>
+    /// The last node.
+    pub fn top(&self) -> &Block
+        requires { 0 < self.now.stack.depth }
+        ensures { result.now ≡ (last_place self.now.stack).block }
+    {
+        self.stack.top()
+    }
+
+    /// Forgets the last node.
+    pub fn pop(&mut self)
         requires { 0 < self.old.stack.depth }
-        ensures steps { StepsOnTrail V.SIZE V.decoded V.fitting result self.old self.new }
-        ensures same { self.new.nr ≡ self.old.nr }
+        ensures { PopsNode self.old self.new }
+    {
+        self.stack.pop();
+    }
+
+    /// Goes on at the last node.
+    pub fn step<V: Value>(&mut self) -> Taken<V>
+        requires { 0 < self.old.stack.depth }
+        ensures { StepsOnWay V.SIZE V.decoded V.fitting result self.old self.new }
     {
         match self.stack.step::<V>() {
             Step::Passed => Taken::Passed,

@@ -1,0 +1,122 @@
+-- What is told of what is left on the way.
+use Rattle.std.proofs.Common.{◌≡◌, inl, inr, ℕ, zero, suc, ◌+◌, ◌-◌, ◌<◌, Bool, true, false, List, [], ◌∷◌, ◌++◌, map, filter, Option, refl, sym, ap, ◌∙◌, arith}
+use Rattle.std.specs.List.{flat_map, range_with_len}
+use Rattle.std.proofs.lemmas.Bool.{cases_Bool}
+use Rattle.std.proofs.lemmas.Grind.{flat_map-append}
+use Rattle.std.proofs.lemmas.List.{append-nil}
+use Rattle.std.proofs.lemmas.List.Concat.{flat_map_single}
+use Rattle.std.proofs.lemmas.List.Folds.{flat_map-map}
+use Rattle.pd_kinds.specs.Edge.{is_outside}
+use Rattle.pd_kinds.specs.Graph.{block_at}
+use Rattle.pd_kinds.specs.Layout.{leaf_entries, node_entries_of}
+use Rattle.pd_kinds.specs.Node.{Entry, entry_count, is_inner_node, child_at}
+use Rattle.pd_laid.specs.Salvage.{is_damaged}
+use Rattle.pd_laid.specs.Visits.{Visit}
+use Rattle.pd_laid.proofs.GatherLemmas.{joined_twice, same_joined}
+use Rattle.pd_tree.specs.Items.{item_of}
+use Rattle.pd_tree.specs.Stack.{last_place, stacked}
+use Rattle.pd_salvage.specs.declared.range.Range.{Range}
+use Rattle.pd_salvage.specs.declared.way.Way.{Way}
+use Rattle.pd_salvage.specs.Range.{child_range, given_below, is_in_range, is_wanted, items_of_visit, saved_below}
+use Rattle.pd_salvage.specs.Steps.{GivesEntry, GoesDown, Passes, PopsNode, PushesNode, SameWay}
+use Rattle.pd_salvage.specs.Way.{Left, entry, frontier, left_from, nodes, saved_on, told, told_on}
+use Rattle.pd_salvage.proofs.RangeLemmas.{at_inner, at_leaf, none_damaged, none_deep, unwanted}
+
+module _ {X : Type 0} (one : Entry → List X) (below : ℕ → Range → ℕ → List X) (size : ℕ) where
+  -- where there is no node, nothing is left
+  pub told_none : (way : Way) → way.stack.depth ≡ 0 → told_on one below size way ≡ []
+  unfolding frontier stacked
+  told_none way depth = rw depth refl
+
+  -- a way that grew
+  pub told_more : (old new : Way) (more : List Left) (xs : List X) → frontier size new ≡ more ++ frontier size old → flat_map (told one below) more ≡ xs
+      → told_on one below size new ≡ xs ++ told_on one below size old
+  told_more old new more xs left is = ap (flat_map (told one below)) left ∙ (flat_map-append (told one below) more (frontier size old) ∙ rw is refl)
+
+-- a node that was pushed and popped left the way as it was
+pub pushed_popped : (size : ℕ) (held : Option (List (List ℕ))) (b : ℕ) (range : Range) (old pushed popped : Way) → PushesNode size held b range old pushed → PopsNode pushed popped → SameWay size old popped
+unfolding frontier
+pushed_popped size held b range old pushed popped pushes pops =
+    let depth : popped.stack.depth ≡ old.stack.depth = (let down = pushes.depth in let up = pops.depth in omega arith) in
+    record {
+      depth = depth;
+      left = rw (depth, pops.places, pops.ranges) pushes.under;
+      number = rw (depth, pops.places) pushes.number_under;
+    }
+
+-- a sound inner node that was read is told as what is given below it
+module _ {X : Type 0} (one : Entry → List X) (given : Visit → List X) (size nr : ℕ) (image : List (List ℕ)) where
+  abbrev below : ℕ → Range → ℕ → List X
+  below j range b = given_below given size nr image j range b
+
+  told_nodes : (j : ℕ) (range : Range) (b : ℕ) → flat_map (told one below) (nodes j range b) ≡ below j range b
+  told_nodes zero range b = sym (none_deep given size nr image b range)
+  told_nodes (suc j) range b = append-nil (below (suc j) range b)
+
+  pub told_inner : (i j b : ℕ) (range : Range) (block : List ℕ) → i ≡ suc j → block_at image b ≡ block → is_outside nr b ≡ false → is_damaged size b block ≡ false → is_inner_node block ≡ true
+      → flat_map (told one below) (left_from size j range block 0) ≡ below i range b
+  unfolding left_from
+  told_inner i j b range block step is inside sound inner =
+      let all : entry_count size block - 0 ≡ entry_count size block = omega arith in
+      let children = range_with_len 0 (entry_count size block) in
+      rw (step, inner, all)
+      (joined_twice (told one below) (λ i. nodes j (child_range size block range i) (child_at block i)) children
+      ∙ (same_joined (λ i. flat_map (told one below) (nodes j (child_range size block range i) (child_at block i))) (λ i. below j (child_range size block range i) (child_at block i)) 0 (entry_count size block)
+      (λ i from within. told_nodes j (child_range size block range i) (child_at block i))
+      ∙ sym (rw is at (at_inner given size nr image j b range inside (rw is sound) (rw is inner)))))
+
+-- what is saved of what is left
+module _ {X : Type 0} (size : ℕ) (decoded : ℕ → X) (nr : ℕ) (image : List (List ℕ)) where
+  abbrev one : Entry → List (ℕ × X)
+  one e = item_of decoded e ∷ []
+
+  abbrev saved : ℕ → Range → ℕ → List (ℕ × X)
+  saved j range b = saved_below size decoded nr image j range b
+
+  -- nothing where there is no node, or of a block that is not wanted
+  pub saved_none : (way : Way) → way.stack.depth ≡ 0 → saved_on size decoded nr image way ≡ []
+  saved_none way depth = told_none one saved size way depth
+
+  pub saved_unwanted : (j b : ℕ) (range : Range) → is_wanted nr b range ≡ false → saved_below size decoded nr image j range b ≡ []
+  unfolding saved_below
+  saved_unwanted j b range out = unwanted (items_of_visit size decoded image) size nr image (λ v none. ap (map (item_of decoded)) none) j b range out
+
+  -- a damaged node that was read leaves all as it was
+  pub saved_damaged : (j b : ℕ) (range : Range) (old new : Way) → SameWay size old new → is_damaged size b (block_at image b) ≡ true
+      → saved_on size decoded nr image new ≡ saved_below size decoded nr image j range b ++ saved_on size decoded nr image old
+  unfolding saved_below
+  saved_damaged j b range old new same damaged = rw (none_damaged (items_of_visit size decoded image) size nr image j b range damaged) (ap (flat_map (told one saved)) same.left)
+
+  -- a sound node that was read is told as what is saved below it
+  told_sound : (i j b : ℕ) (range : Range) (block : List ℕ) → i ≡ suc j → block_at image b ≡ block → is_outside nr b ≡ false → is_damaged size b block ≡ false
+      → flat_map (told one saved) (left_from size j range block 0) ≡ saved_below size decoded nr image i range b
+  unfolding saved_below left_from leaf_entries node_entries_of
+  told_sound i j b range block step is inside sound = elim (cases_Bool (is_inner_node block)) [
+    | inl inner ↦ told_inner one (items_of_visit size decoded image) size nr image i j b range block step is inside sound inner
+    | inr leaf ↦
+        let all : entry_count size block - 0 ≡ entry_count size block = omega arith in
+        let kept = filter (λ (e : Entry). is_in_range range e.key) (node_entries_of size block) in
+        rw (step, leaf, all)
+        (flat_map-map (told one saved) entry kept
+        ∙ (flat_map_single (item_of decoded) kept
+        ∙ sym (at_leaf (items_of_visit size decoded image) size nr image j b range inside (rw is sound) (rw is leaf) ∙ rw (is, leaf) refl)))
+  ]
+
+  pub saved_pushed : (held : Option (List (List ℕ))) (b : ℕ) (range : Range) (old new : Way) → PushesNode size held b range old new → old.stack.depth < 64
+      → block_at image b ≡ (last_place new.stack).block.0 → is_outside nr b ≡ false → is_damaged size b (last_place new.stack).block.0 ≡ false
+      → saved_on size decoded nr image new ≡ saved_below size decoded nr image (64 - old.stack.depth) range b ++ saved_on size decoded nr image old
+  saved_pushed held b range old new pushes room read inside sound =
+      told_more one saved size old new _ _ pushes.left
+      (told_sound (64 - old.stack.depth) (63 - old.stack.depth) b range (last_place new.stack).block.0 (omega arith) read inside sound)
+
+  -- a step
+  pub saved_same : (old new : Way) → Passes size old new → saved_on size decoded nr image old ≡ saved_on size decoded nr image new
+  saved_same old new passes = ap (flat_map (told one saved)) passes.left
+
+  pub saved_child : (b : ℕ) (range : Range) (old new : Way) → GoesDown size b range old new
+      → saved_on size decoded nr image old ≡ saved_below size decoded nr image (64 - new.stack.depth) range b ++ saved_on size decoded nr image new
+  saved_child b range old new down = ap (flat_map (told one saved)) down.left
+
+  pub saved_entry : (fitting : X → Bool) (key : ℕ) (value : X) (old new : Way) → GivesEntry size decoded fitting key value old new
+      → saved_on size decoded nr image old ≡ (key, value) ∷ saved_on size decoded nr image new
+  saved_entry fitting key value old new gives = rw gives.is (ap (flat_map (told one saved)) gives.left)
