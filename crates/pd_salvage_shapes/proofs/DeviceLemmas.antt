@@ -1,6 +1,6 @@
 -- The devices with their pieces, with one more.
-use Rattle.std.proofs.Common.{◌≡◌, ℕ, zero, suc, ◌+◌, ◌≤◌, List, [], ◌∷◌, ◌++◌, length, map, take, drop, refl, sym, ap, ◌∙◌, arith, sum_by}
-use Rattle.std.proofs.lemmas.List.{length-append, length-drop, map-append, take-append-le, drop-append-le}
+use Rattle.std.proofs.Common.{◌≡◌, ℕ, zero, suc, ◌+◌, ◌≤◌, List, [], ◌∷◌, ◌++◌, length, map, get_or, set, take, drop, refl, sym, ap, ◌∙◌, arith, sum_by}
+use Rattle.std.proofs.lemmas.List.{get_or-set_other, length-append, length-drop, map-append, take-append-le, drop-append-le}
 use Rattle.std.proofs.lemmas.List.Sums.{sum_by-append}
 use Rattle.pd_laid.specs.Shape.{ShapeDevice}
 use Rattle.pd_shapes.specs.SharedText.{PartPiece, SharedPart, device_of_part}
@@ -75,16 +75,16 @@ added_shape ones notes numbers ts ds t d old new same are shaped adds =
     let device : ShapedDevice = record { id = t.id; details = record t.details { mapped = d.mapped }; pieces = adds.count } in
     let pieces_are = has.pieces_are in
     let count : adds.count ≡ length has.given = (let all = ap length pieces_are ∙ length-append old.piecing.pieces.items has.given in let counted = adds.takes.counted ones are in omega arith) in
-    let parts : device_parts new.devices.items new.piecing.pieces.items new.piecing.runs.items
-    ≡ device_parts old.devices.items old.piecing.pieces.items old.piecing.runs.items ++ device_part device (piece_parts has.given has.given_runs) ∷ [] =
+    let parts : device_parts new.devices.items new.piecing.pieces.items new.piecing.runs
+    ≡ device_parts old.devices.items old.piecing.pieces.items old.piecing.runs ++ device_part device (piece_parts has.given has.given_runs) ∷ [] =
     rw (adds.added, pieces_are, has.runs_are)
-    (device_more old.devices.items device old.piecing.pieces.items has.given old.piecing.runs.items has.given_runs shaped.piece_number shaped.number count) in
+    (device_more old.devices.items device old.piecing.pieces.items has.given old.piecing.runs has.given_runs shaped.piece_number shaped.number count) in
     record {
       means =
           ap (map device_of_part) parts
-          ∙ (map-append device_of_part (device_parts old.devices.items old.piecing.pieces.items old.piecing.runs.items) (device_part device (piece_parts has.given has.given_runs) ∷ [])
+          ∙ (map-append device_of_part (device_parts old.devices.items old.piecing.pieces.items old.piecing.runs) (device_part device (piece_parts has.given has.given_runs) ∷ [])
           ∙ (rw (shaped.means, has.means) refl ∙ sym (shaped_more ones notes ts ds t d same)));
-      joined = rw parts (all_more IsPartJoined (device_parts old.devices.items old.piecing.pieces.items old.piecing.runs.items) (device_part device (piece_parts has.given has.given_runs)) shaped.joined has.joined);
+      joined = rw parts (all_more IsPartJoined (device_parts old.devices.items old.piecing.pieces.items old.piecing.runs) (device_part device (piece_parts has.given has.given_runs)) shaped.joined has.joined);
       piece_number =
           let sums = sum_by-append (λ (e : ShapedDevice). e.pieces) old.devices.items (device ∷ []) in
           let lengths = length-append old.piecing.pieces.items has.given in
@@ -92,17 +92,31 @@ added_shape ones notes numbers ts ds t d old new same are shaped adds =
           rw (adds.added, pieces_are) (omega arith);
       number =
           let sums = sum_more old.piecing.pieces.items has.given in
-          let lengths = length-append old.piecing.runs.items has.given_runs in
+          let lengths = length-append old.piecing.runs has.given_runs in
           let before = shaped.number in
           let here = has.number in
           rw (pieces_are, has.runs_are) (omega arith);
     }
 
 -- no device
-pub none_shaped : (ones : List ℕ) (notes : List Note) (shaped : ShapedDevices) → shaped.devices.items ≡ [] → shaped.piecing.pieces.items ≡ [] → shaped.piecing.runs.items ≡ [] → AreShaped ones notes [] [] shaped
+pub none_shaped : (ones : List ℕ) (notes : List Note) (shaped : ShapedDevices) → shaped.devices.items ≡ [] → shaped.piecing.pieces.items ≡ [] → shaped.piecing.runs ≡ [] → AreShaped ones notes [] [] shaped
 none_shaped ones notes shaped devices pieces runs = record {
   means = rw devices refl;
   joined = rw devices tt;
   piece_number = rw (devices, pieces) refl;
   number = rw (pieces, runs) refl;
 }
+
+-- ---- what the devices met, as it is used up
+
+-- of a device that comes there is still all that it met
+pub still_there : (old now : List Seen) (i : ℕ) (e d : Seen) → ((k : ℕ) (f : Seen) → i ≤ k → get_or now k f ≡ get_or old k f)
+    → e ≡ get_or now i e → d ≡ get_or now i e → d ≡ get_or old i d
+still_there old now i e d rest is found =
+    let same : d ≡ e = found ∙ sym is in
+    rw same (is ∙ rest i e (omega arith))
+
+-- and of those behind it, whatever is put in its place
+pub still_after : (old now : List Seen) (i : ℕ) (e : Seen) → ((k : ℕ) (f : Seen) → i ≤ k → get_or now k f ≡ get_or old k f)
+    → (k : ℕ) (f : Seen) → i + 1 ≤ k → get_or (set now i e) k f ≡ get_or old k f
+still_after old now i e rest k f above = get_or-set_other now i k e f (omega arith) ∙ rest k f (omega arith)

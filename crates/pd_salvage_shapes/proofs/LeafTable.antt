@@ -35,7 +35,7 @@ module _ (blocks : ℕ) (places : List ℕ) (notes : List Note) (are : AreNotes 
       let same : get_or places note.block 0 - 1 ≡ k = omega arith in
       rw same at
 
-  pub leaf_runs_are : (b : ℕ) (leaf : IsLeaf b) → leaf_runs places notes b ≡ leaf.note.runs.items
+  pub leaf_runs_are : (b : ℕ) (leaf : IsLeaf b) → leaf_runs places notes b ≡ leaf.note.runs
   leaf_runs_are b leaf =
       let at : note_at places notes b ≡ Some leaf.note = subst (λ (c : ℕ). note_at places notes c ≡ Some leaf.note) leaf.block (leaf_of leaf.number leaf.note leaf.at leaf.full) in
       rw at refl

@@ -1,12 +1,10 @@
 pub mod UseLemmas
 pub mod TopLemmas
 pub mod DeviceLemmas
-pub mod MetLemmas
 pub mod SeenLemmas
 pub mod SharedLemmas
 pub mod MetPieces
 pub mod NoteLemmas
-pub mod WayLemmas
 pub mod TellLemmas
 pub mod VisitingLemmas
 pub mod VisitLemmas

@@ -1,9 +1,8 @@
 -- The pieces of what was met, one note after another.
 use Rattle.std.proofs.lemmas.Bool.{cases_Bool}
-use Rattle.std.proofs.Common.{◌≡◌, inl, inr, ℕ, ◌+◌, ◌-◌, ◌<◌, ◌≤◌, true, false, List, [], ◌∷◌, ◌++◌, length, map, take, drop, Option, Some, None, refl, sym, ap, ◌∙◌, subst, get_or, arith, append_assoc}
+use Rattle.std.proofs.Common.{◌≡◌, inl, inr, ℕ, ◌+◌, ◌-◌, ◌≤◌, true, false, List, [], ◌∷◌, ◌++◌, length, map, take, drop, Option, Some, None, refl, sym, ap, ◌∙◌, subst, arith, append_assoc}
 use Rattle.std.specs.List.{AllByRecursion}
 use Rattle.std.proofs.lemmas.List.{append-nil, length-append, length-drop, map-append, take-append-le, drop-append-le}
-use Rattle.std.proofs.lemmas.List.{take_more}
 use Rattle.std.proofs.lemmas.List.Sums.{sum_by-append}
 use Rattle.pd_kinds.specs.Meaning.{Mapping}
 use Rattle.pd_laid.specs.Shape.{Piece, own, shared}
@@ -110,13 +109,13 @@ none_joining before runs joining none is = record {
 }
 
 module _ (ones : List ℕ) (pieces : List SavedPiece) (runs : List Run) where
-  pub begins : (p : Piecing) → IsIdle p → p.pieces.items ≡ pieces → p.runs.items ≡ runs → IsPiecing ones pieces runs p []
+  pub begins : (p : Piecing) → IsIdle p → p.pieces.items ≡ pieces → p.runs ≡ runs → IsPiecing ones pieces runs p []
   begins p idle is_pieces is_runs = record {
     given = [];
     given_runs = [];
     mappings = [];
     pieces_are = is_pieces ∙ sym (append-nil pieces);
-    joining = none_joining (runs ++ []) p.runs.items p.joining idle.none (is_runs ∙ sym (append-nil runs));
+    joining = none_joining (runs ++ []) p.runs p.joining idle.none (is_runs ∙ sym (append-nil runs));
     first = idle.first ∙ ap length (is_runs ∙ sym (append-nil runs));
     number = refl;
     joined = tt;
@@ -125,7 +124,7 @@ module _ (ones : List ℕ) (pieces : List SavedPiece) (runs : List Run) where
 
   module _ (old new : Piecing) (done : List Met) (is : IsPiecing ones pieces runs old done) (leaf : Option ℕ) (ms : List Mapping) where
     -- a note of the device's own
-    pub takes_own : number_of_leaf ones leaf ≡ None → new.pieces ≡ old.pieces → new.first ≡ old.first → IsJoining (runs ++ is.given_runs) new.runs.items new.joining (is.mappings ++ ms)
+    pub takes_own : number_of_leaf ones leaf ≡ None → new.pieces ≡ old.pieces → new.first ≡ old.first → IsJoining (runs ++ is.given_runs) new.runs new.joining (is.mappings ++ ms)
         → IsPiecing ones pieces runs new (done ++ met_of leaf ms)
     takes_own none same first joining = record {
       given = is.given;
@@ -159,8 +158,8 @@ module _ (ones : List ℕ) (pieces : List SavedPiece) (runs : List Run) where
       pub takes_shared : new.pieces.items ≡ mid.pieces.items ++ Shared k ∷ [] → new.runs ≡ mid.runs → new.joining ≡ mid.joining → new.first ≡ mid.first
           → IsPiecing ones pieces runs new (done ++ met_of leaf ms)
       takes_shared pushed same_runs same_joining same_first =
-          let whole : new.runs.items ≡ runs ++ (is.given_runs ++ ends.given) = rw same_runs (ends.runs_are ∙ append_assoc runs is.given_runs ends.given) in
-          let same_items : new.runs.items ≡ mid.runs.items = rw same_runs refl in
+          let whole : new.runs ≡ runs ++ (is.given_runs ++ ends.given) = rw same_runs (ends.runs_are ∙ append_assoc runs is.given_runs ends.given) in
+          let same_items : new.runs ≡ mid.runs = rw same_runs refl in
           let sum = sum_more is.given (own_piece ends.given ++ Shared k ∷ []) in
           let sum_last = sum_more (own_piece ends.given) (Shared k ∷ []) in
           let own_sum = own_number ends.given in
@@ -175,7 +174,7 @@ module _ (ones : List ℕ) (pieces : List SavedPiece) (runs : List Run) where
                 ∙ (ap (λ (ps : List SavedPiece). ps ++ Shared k ∷ []) (ends.pieces_are ∙ (ap (λ (ps : List SavedPiece). ps ++ own_piece ends.given) is.pieces_are ∙ append_assoc pieces is.given (own_piece ends.given)))
                 ∙ (append_assoc pieces (is.given ++ own_piece ends.given) (Shared k ∷ [])
                 ∙ ap (λ (ps : List SavedPiece). pieces ++ ps) (append_assoc is.given (own_piece ends.given) (Shared k ∷ []))));
-            joining = none_joining (runs ++ (is.given_runs ++ ends.given)) new.runs.items new.joining (rw same_joining ends.none) whole;
+            joining = none_joining (runs ++ (is.given_runs ++ ends.given)) new.runs new.joining (rw same_joining ends.none) whole;
             first = same_first ∙ (ends.first ∙ ap length (sym (same_items) ∙ whole));
             number = omega arith;
             joined = rw parts (all_append IsPieceJoined (piece_parts is.given is.given_runs) (piece_parts (own_piece ends.given) ends.given ++ used_leaf k ∷ []) is.joined
@@ -229,8 +228,34 @@ pub takes_more : (before more : List Mapping) (r0 r1 r2 : List Run) (j0 j1 j2 : 
 takes_more before more r0 r1 r2 j0 j1 j2 first second = λ runs ms is.
     subst (λ (xs : List Mapping). IsJoining runs r2 j2 xs) (append_assoc ms before more) (second runs (ms ++ before) (first runs ms is))
 
-pub taken_runs : (runs : List Run) (i : ℕ) (d : Run) → i < length runs → mappings_of_runs (take (i + 1) runs) ≡ mappings_of_runs (take i runs) ++ mappings_of (spelled (get_or runs i d))
-taken_runs runs i d within = ap mappings_of_runs (take_more runs i d within) ∙ runs_more (take i runs) (get_or runs i d)
+-- of some runs all but those that are left were taken
+pub record TakesFirst (runs left : List Run) (old new : List Run) (joining joining' : Joining) : Type 0 where
+  pub first : List Run
+  pub split : runs ≡ first ++ left
+  pub takes : Takes (mappings_of_runs first) old new joining joining'
+
+module _ (runs : List Run) (old : List Run) (joining : Joining) where
+  pub takes_none : (left : List Run) → left ≡ runs → TakesFirst runs left old old joining joining
+  takes_none left is = record {
+    first = [];
+    split = sym is;
+    takes = λ before ms joins. rw (append-nil ms) joins;
+  }
+
+  pub takes_next : (left rest : List Run) (run : Run) (now new : List Run) (joining' joining'' : Joining) → TakesFirst runs left old now joining joining' → left ≡ run ∷ rest
+      → Takes (mappings_of (spelled run)) now new joining' joining'' → TakesFirst runs rest old new joining joining''
+  takes_next left rest run now new joining' joining'' taken is next = record {
+    first = taken.first ++ run ∷ [];
+    split = taken.split ∙ (ap (λ (rs : List Run). taken.first ++ rs) is ∙ sym (append_assoc taken.first (run ∷ []) rest));
+    takes =
+        subst (λ (ms : List Mapping). Takes ms old new joining joining'') (sym (runs_more taken.first run))
+        (takes_more (mappings_of_runs taken.first) (mappings_of (spelled run)) old now new joining joining' joining'' taken.takes next);
+  }
+
+  pub takes_all : (left new : List Run) (joining' : Joining) → TakesFirst runs left old new joining joining' → left ≡ [] → Takes (mappings_of_runs runs) old new joining joining'
+  takes_all left new joining' taken none =
+      let all : taken.first ≡ runs = sym (append-nil taken.first) ∙ (ap (λ (rs : List Run). taken.first ++ rs) (sym none) ∙ sym taken.split) in
+      subst (λ (rs : List Run). Takes (mappings_of_runs rs) old new joining joining') all taken.takes
 
 -- so many runs as a piece
 pub some_piece : (runs : List Run) (n : ℕ) → n ≡ length runs → 1 ≤ n → own_piece runs ≡ Own n ∷ []

@@ -230,7 +230,7 @@ module _ (runs : List Run) (gathering : LeafGathering) (ms : List Mapping) (befo
   pub gathered_mappings : mappings_of_runs runs ≡ ms
   gathered_mappings = rw has.runs_are (sym has.written)
 
-  pub gathered_note : (blocks : ℕ) (note : Note) → note.runs.items ≡ runs → note.entries ≡ gathering.mapped → note.first ≡ gathering.first → note.end ≡ gathering.end
+  pub gathered_note : (blocks : ℕ) (note : Note) → note.runs ≡ runs → note.entries ≡ gathering.mapped → note.first ≡ gathering.first → note.end ≡ gathering.end
       → (note.full ≡ true → (1 ≤ note.entries) × (note.entries ≤ 252)) → AreMappings blocks 0 ms → IsNote blocks note
   gathered_note blocks note is entries first end sized lawful =
       let mappings : noted note ≡ ms = rw is gathered_mappings in

@@ -177,12 +177,12 @@ module _ (fields : ThinFields) (places : List ℕ) (notes : List Note) (tops : L
   module _ (uses : List ℕ) (number : length uses ≡ fields.meta_map.blocks) (uses_are : AreUses (leaves_of (all_mets notes seen)) uses) (s : SharedLeaves) (sharing : IsSharing uses places notes s (length uses))
       (shaped : ShapedDevices) (shapes : AreShaped (shared_below uses (length uses)) notes tops seen shaped) where
     abbrev pub h : HeldShape
-    h = held (head_of fields) s.leaves.items s.runs.items shaped.devices.items shaped.piecing.pieces.items shaped.piecing.runs.items
+    h = held (head_of fields) s.leaves.items s.runs shaped.devices.items shaped.piecing.pieces.items shaped.piecing.runs
 
     same_ones : shared_below uses (length uses) ≡ ones
     same_ones = ones_are fields.meta_map.blocks (leaves_of (all_mets notes seen)) uses number uses_are
 
-    parts : leaf_parts s.leaves.items s.runs.items ≡ map (λ b. map spelled (leaf_runs places notes b)) ones
+    parts : leaf_parts s.leaves.items s.runs ≡ map (λ b. map spelled (leaf_runs places notes b)) ones
     parts = sharing.leaves ∙ ap (map (λ b. map spelled (leaf_runs places notes b))) same_ones
 
     leaf_maps_are : (xs : List ℕ) → map mappings_of_runs (map (λ b. map spelled (leaf_runs places notes b)) xs) ≡ map f xs

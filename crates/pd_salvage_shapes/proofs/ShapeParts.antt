@@ -77,7 +77,7 @@ module _ (v : Visiting) (small : v.s.data_map.blocks ≤ 2 ^ 40) (table : HasTab
       module _ (few : v.s.meta_map.blocks ≤ 4161600) (tops : List Top) (each : length seen ≡ length tops) (tops_are : AreTops 0 tops)
           (shaped : ShapedDevices) (shapes : AreShaped (shared_below uses (length uses)) v.notes.items tops seen shaped) (head : SavedHead) (headed : head ≡ head_of v.s) where
         abbrev pub parts : SavedHead → HeldShape
-        parts first = held first s.leaves.items s.runs.items shaped.devices.items shaped.piecing.pieces.items shaped.piecing.runs.items
+        parts first = held first s.leaves.items s.runs shaped.devices.items shaped.piecing.pieces.items shaped.piecing.runs
 
         pub parts_sound : FitsHead head → IsSavedShape (parts head)
         parts_sound fits =

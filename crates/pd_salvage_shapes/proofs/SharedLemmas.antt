@@ -124,8 +124,8 @@ module _ (uses places : List ℕ) (notes : List Note) (n : ℕ) where
     pub added : (note : Note) → is_twice uses n ≡ true → note_at places notes n ≡ Some note → note.entries ≡ length (noted note) → AddsLeaf note old new → IsSharing uses places notes new (n + 1)
     added note twice at entries adds =
         let next = shared_taken twice in
-        let runs_are : leaf_runs places notes n ≡ note.runs.items = rw at refl in
-        let leaf : SavedLeaf = record { entries = note.entries; runs = length note.runs.items } in
+        let runs_are : leaf_runs places notes n ≡ note.runs = rw at refl in
+        let leaf : SavedLeaf = record { entries = note.entries; runs = length note.runs } in
         let leaf_count : length new.leaves.items ≡ suc (length ones) = rw adds.leaves (let all = length-append old.leaves.items (leaf ∷ []) in let before = is.leaf_count in omega arith) in
         record {
           count = rw adds.numbers (length-append old.numbers.items (length new.leaves.items ∷ []) ∙ ap (λ (k : ℕ). k + 1) is.count);
@@ -139,14 +139,14 @@ module _ (uses places : List ℕ) (notes : List Note) (n : ℕ) where
               ]);
           leaves =
               rw (next, adds.leaves, adds.runs) (
-              leaves_more old.leaves.items leaf old.runs.items note.runs.items is.number refl
+              leaves_more old.leaves.items leaf old.runs note.runs is.number refl
               ∙ (ap₂ (λ (xs ys : List (List text.Run)). xs ++ ys) is.leaves (ap (λ (rs : List Run). map spelled rs ∷ []) (sym runs_are))
               ∙ sym (map-append (λ b. map spelled (leaf_runs places notes b)) ones (n ∷ []))));
           leaf_count = rw next (leaf_count ∙ sym (let all = length-append ones (n ∷ []) in omega arith));
-          counted = rw (adds.leaves, adds.runs) (counted_more old.leaves.items leaf old.runs.items note.runs.items is.number refl entries is.counted);
+          counted = rw (adds.leaves, adds.runs) (counted_more old.leaves.items leaf old.runs note.runs is.number refl entries is.counted);
           number =
               let sums = sum_by-append (λ (l : SavedLeaf). l.runs) old.leaves.items (leaf ∷ []) in
-              let lengths = length-append old.runs.items note.runs.items in
+              let lengths = length-append old.runs note.runs in
               let before = is.number in
               rw (adds.leaves, adds.runs) (omega arith);
         }

@@ -11,11 +11,11 @@ use Rattle.pd_laid.specs.Salvage.{is_damaged}
 use Rattle.pd_shapes.specs.ImageShape.{mappings_in}
 use Rattle.pd_salvage.specs.declared.range.Range.{Range}
 use Rattle.pd_salvage.specs.Range.{all_keys}
+use Rattle.pd_salvage.proofs.RangeLemmas.{at_leaf, none_damaged}
 use Rattle.pd_salvage_shapes.specs.declared.note.Note.{Note}
-use Rattle.pd_salvage_shapes.specs.Mets.{mets_below}
+use Rattle.pd_salvage_shapes.specs.Mets.{met_of_visit, mets_below}
 use Rattle.pd_salvage_shapes.specs.Note.{Notes, in_keys, mapping_of_entry, met_in, noted, saved_at, saved_in}
 use Rattle.pd_salvage_shapes.specs.Visiting.{TellsLeaf}
-use Rattle.pd_salvage_shapes.proofs.MetLemmas.{met_at_leaf, none_damaged}
 use Rattle.pd_salvage_shapes.proofs.NoteLemmas.{few_in, few_saved, leaf_is, saved_keys}
 
 -- so many are all of a number, where as many of them as there are are so
@@ -63,8 +63,9 @@ module _ (fields : ThinFields) (image : List (List ℕ)) (b : ℕ) (block : List
   ]
 
   note_meets : (j : ℕ) (range : Range) → is_outside fields.meta_map.blocks b ≡ false → mets_below fields image (suc j) range b ≡ met_in note range
+  unfolding mets_below
   note_meets j range inside = elim (cases_Bool (is_damaged 8 b block)) [
-    | inl damaged ↦ none_damaged fields image (suc j) b range (rw read damaged) ∙ rw (none_noted damaged) refl
+    | inl damaged ↦ none_damaged (met_of_visit fields image) 8 fields.meta_map.blocks image (suc j) b range (rw read damaged) ∙ rw (none_noted damaged) refl
     | inr sound ↦
         let kept = kept_in sound range in
         let ms = in_keys range (noted note) in
@@ -72,7 +73,7 @@ module _ (fields : ThinFields) (image : List (List ℕ)) (b : ℕ) (block : List
         let most : length (noted note) ≤ length (leaf_entries 8 block) = rw (all_noted sound) (few_saved blocks all_keys block (leaf_entries 8 block)) in
         let sized = nat_le 1 (length (leaf_entries 8 block)) && nat_le (length (leaf_entries 8 block)) 252 in
         let whole = whole_is (length ms) (length (noted note)) (length (leaf_entries 8 block)) sized (few_in range (noted note)) most in
-        met_at_leaf fields image j b range inside (rw read sound) (rw read (leaf sound))
+        at_leaf (met_of_visit fields image) 8 fields.meta_map.blocks image j b range inside (rw read sound) (rw read (leaf sound))
         ∙ rw (number, read, kept, whole, is.full, is.at) refl
   ]
 

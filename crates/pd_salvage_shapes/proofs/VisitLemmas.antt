@@ -1,28 +1,33 @@
 -- A leaf that is noted, and one that is visited.
 use Rattle.std.proofs.Common.{◌≡◌, ◌≢◌, inl, inr, ℕ, suc, ◌+◌, ◌-◌, ◌<◌, ◌≤◌, Bool, true, false, cond, ◌&&◌, nat_eq, get_or, set, List, [], ◌∷◌, ◌++◌, length, Option, Some, None, IfSome, refl, sym, ap, ◌∙◌, subst, arith, append_assoc, eq-eqb}
-use Rattle.std.specs.List.{AllByRecursion, slice_get}
-use Rattle.std.proofs.lemmas.Bool.{both_ways, eqb-true, ne_eqb, cases_Bool, cases_lt, lt-ltb}
+use Rattle.std.specs.List.{AllByRecursion, flat_map, slice_get}
+use Rattle.std.proofs.lemmas.Bool.{both_ways, eqb-true, ne_eqb, cases_Bool}
 use Rattle.std.proofs.lemmas.List.{length-append, get_or-set_same, get_or-set_other}
 use Rattle.std.proofs.lemmas.Option.{IfSome_then, slice_get_within}
 use Rattle.pd_kinds.specs.Edge.{is_outside}
 use Rattle.pd_kinds.specs.Graph.{block_at}
 use Rattle.pd_kinds.specs.Meaning.{Mapping}
+use Rattle.pd_kinds.specs.Node.{is_inner_node}
 use Rattle.pd_kinds.specs.ThinSuper.{ThinFields}
+use Rattle.pd_laid.specs.Salvage.{is_damaged}
+use Rattle.pd_laid.specs.Visits.{Visit, entries_of_visit}
+use Rattle.pd_shapes.specs.SavedShape.{is_whole_visit, saved_of_visit}
 use Rattle.pd_spells.specs.Lawful.{AreMappings}
-use Rattle.pd_tree.specs.Stack.{child_weight}
+use Rattle.pd_tree.specs.Stack.{child_weight, last_place}
 use Rattle.pd_tree.proofs.NextLemmas.{if_both}
 use Rattle.pd_tree.proofs.StackLemmas.{unit_some}
 use Rattle.pd_salvage.specs.declared.range.Range.{Range}
+use Rattle.pd_salvage.specs.declared.way.Way.{Way}
 use Rattle.pd_salvage.specs.Range.{is_wanted}
-use Rattle.pd_salvage.proofs.TrailLemmas.{wanted}
+use Rattle.pd_salvage.specs.Steps.{PushesNode}
+use Rattle.pd_salvage.specs.Way.{frontier, told, way_number}
+use Rattle.pd_salvage.proofs.RangeLemmas.{unwanted, wanted}
+use Rattle.pd_salvage.proofs.ToldLemmas.{told_inner, told_more}
 use Rattle.pd_salvage_shapes.specs.declared.note.Note.{Note}
 use Rattle.pd_salvage_shapes.specs.declared.visiting.Visiting.{Visiting}
-use Rattle.pd_salvage_shapes.specs.declared.way.Way.{Way}
-use Rattle.pd_salvage_shapes.specs.Mets.{Met, met_of, mets_below}
+use Rattle.pd_salvage_shapes.specs.Mets.{Met, met_of, met_of_visit, mets_below, way_left}
 use Rattle.pd_salvage_shapes.specs.Note.{IsNote, in_keys, met_in, met_of_note, noted, saved_at}
 use Rattle.pd_salvage_shapes.specs.Visiting.{AreMet, AreNotes, Grow, IsNoted, IsRaised, IsReady, Meets, MeetsAll, ReadsPart, StaysOnWay, TakesNote, TakesOwn, Tells, TellsAll, TellsLeaf, Visits, maps, mets_now, mets_of}
-use Rattle.pd_salvage_shapes.specs.Way.{PopsNode, PushesNode, way_left, way_number}
-use Rattle.pd_salvage_shapes.proofs.MetLemmas.{none_empty, none_outside}
 use Rattle.pd_salvage_shapes.proofs.VisitingLemmas.{all_weaker, at_pushed, last_at, maps_append, maps_met, mets_grow, pushed_at, raised_are, raised_same, took_mets, took_ready, took_rest}
 
 -- a note was added
@@ -156,22 +161,30 @@ module _ (k : ℕ) (note : Note) (old mid new : Visiting) (ready : IsReady old) 
     tells = λ image tells. rw (takes.same.0, takes.same.2, takes.same.3, s, places) (own_tells old ready note sound mid.notes.items is part image tells);
   }
 
--- a node that was pushed and popped left the way as it was
-pub pushed_popped : (held : Option (List (List ℕ))) (b : ℕ) (range : Range) (old pushed popped : Way) → PushesNode held b range old pushed → PopsNode pushed popped
-    → (popped.stack.depth ≡ old.stack.depth) × ((fields : ThinFields) (image : List (List ℕ)) → way_left fields image popped ≡ way_left fields image old) × (way_number popped ≡ way_number old)
-pushed_popped held b range old pushed popped pushes pops =
-    let depth : popped.stack.depth ≡ old.stack.depth = (let down = pushes.depth in let up = pops.depth in omega arith) in
-    (depth, (λ fields image. pops.left fields image ∙ rw depth (pushes.under fields image)), pops.number ∙ rw depth pushes.number_under)
+-- what is met of what is left on the way
+module _ (fields : ThinFields) (image : List (List ℕ)) where
+  pub same_left : (old new : Way) → frontier 8 new ≡ frontier 8 old → way_left fields image new ≡ way_left fields image old
+  same_left old new same = ap (flat_map (told (λ e. []) (mets_below fields image))) same
 
--- a block was met: nothing of it is wanted
-pub none_wanted : (fields : ThinFields) (image : List (List ℕ)) (j b : ℕ) (range : Range) → is_wanted fields.meta_map.blocks b range ≡ false → mets_below fields image j range b ≡ []
-none_wanted fields image j b range out = elim (cases_Bool (is_outside fields.meta_map.blocks b)) [
-  | inl outside ↦ none_outside fields image j b range outside
-  | inr inside ↦ elim (cases_lt range.low range.high) [
-    | inl some ↦ absurd (both_ways (is_wanted fields.meta_map.blocks b range) out (rw (inside, lt-ltb range.low range.high some) refl))
-    | inr empty ↦ none_empty fields image j b range empty
-  ]
-]
+  -- a sound inner node was pushed
+  pub inner_pushed : (held : Option (List (List ℕ))) (b : ℕ) (range : Range) (old new : Way) → PushesNode 8 held b range old new → old.stack.depth < 64
+      → block_at image b ≡ (last_place new.stack).block.0 → is_outside fields.meta_map.blocks b ≡ false → is_damaged 8 b (last_place new.stack).block.0 ≡ false
+      → is_inner_node (last_place new.stack).block.0 ≡ true → way_left fields image new ≡ mets_below fields image (64 - old.stack.depth) range b ++ way_left fields image old
+  unfolding mets_below
+  inner_pushed held b range old new pushes room read inside sound inner =
+      told_more (λ e. []) (mets_below fields image) 8 old new _ _ pushes.left
+      (told_inner (λ e. []) (met_of_visit fields image) 8 fields.meta_map.blocks image (64 - old.stack.depth) (63 - old.stack.depth) b range (last_place new.stack).block.0
+      (omega arith) read inside sound inner)
+
+  -- nothing of a block that is not wanted
+  met_nothing : (v : Visit) → entries_of_visit 8 image v ≡ [] → met_of_visit fields image v ≡ []
+  met_nothing v none =
+      let saved : saved_of_visit fields image v ≡ [] = rw none refl in
+      ap (met_of (cond (is_whole_visit fields image v) (Some v.leaf) None)) saved
+
+  pub none_wanted : (j b : ℕ) (range : Range) → is_wanted fields.meta_map.blocks b range ≡ false → mets_below fields image j range b ≡ []
+  unfolding mets_below
+  none_wanted j b range out = unwanted (met_of_visit fields image) 8 fields.meta_map.blocks image met_nothing j b range out
 
 pub any_if : {P : List (List ℕ) → Type 0} → (o : Option (List (List ℕ))) → ((x : List (List ℕ)) → P x) → IfSome o P
 any_if None each = tt
@@ -179,7 +192,7 @@ any_if (Some x) each = each x
 
 -- what is met and left, where nothing changed but what was left
 module _ (held : Option (List (List ℕ))) (b : ℕ) (range : Range) (old : Visiting) (ready : IsReady old) where
-  pub passes : is_wanted old.s.meta_map.blocks b range ≡ false → way_number old.way < way_number old.way + child_weight (64 - old.way.stack.depth) → Meets held b range old old
+  pub passes : is_wanted old.s.meta_map.blocks b range ≡ false → way_number 8 old.way < way_number 8 old.way + child_weight (64 - old.way.stack.depth) → Meets held b range old old
   passes out number = record {
     same = refl;
     ready = ready;
@@ -274,11 +287,11 @@ module _ (b k : ℕ) (note : Note) (range raised : Range) (old new : Visiting) (
         (took_mets k note old new ready at from takes) (took_rest k note old new ready at from takes) (rw takes.same.1 refl)
 
     -- a part of one
-    pub part_told : (part : Note) (way : Way) → ((fields : ThinFields) (image : List (List ℕ)) → way_left fields image way ≡ way_left fields image old.way)
+    pub part_told : (part : Note) (way : Way) → frontier 8 way ≡ frontier 8 old.way
         → length (in_keys raised (noted note)) < length (noted note) → part.full ≡ false → noted part ≡ saved_at pool b (block_at image b) raised
         → TakesOwn part (record old { way = way }) new → MeetsAll image (mets_now old ++ (mets_below old.s image (suc j) range b ++ left)) new
-    part_told part way same_left less own is takes =
-        meets_more part (part_met part less own is) takes.same.0 (takes.tells image tells) takes.mets takes.rest (rw takes.same.1 (same_left old.s image))
+    part_told part way same less own is takes =
+        meets_more part (part_met part less own is) takes.same.0 (takes.tells image tells) takes.mets takes.rest (rw takes.same.1 (same_left old.s image old.way way same))
 
   pub visits_whole : (held : Option (List (List ℕ))) → in_keys raised (noted note) ≡ noted note → TakesNote k note old new → Visits held b range old new
   visits_whole held all takes =
@@ -287,7 +300,7 @@ module _ (b k : ℕ) (note : Note) (range raised : Range) (old new : Visiting) (
         same = takes.same.0;
         ready = took_ready k note old new ready at from takes;
         grow = rw takes.same.3 (λ n other is. is);
-        way = record { depth = rw takes.same.1 refl; left = λ fields image. rw takes.same.1 refl; number = rw takes.same.1 refl };
+        way = record { depth = rw takes.same.1 refl; left = rw takes.same.1 refl; number = rw takes.same.1 refl };
         told = any_if held (λ image tells j inside ascend. whole_told image tells j inside ascend all from takes);
       }
 
@@ -301,7 +314,7 @@ module _ (b k : ℕ) (note : Note) (range raised : Range) (old new : Visiting) (
         grow = own.grow;
         way = record {
           depth = rw own.same.1 reads.way.depth;
-          left = λ fields image. rw own.same.1 (reads.way.left fields image);
+          left = rw own.same.1 reads.way.left;
           number = rw own.same.1 reads.way.number;
         };
         told = IfSome_then held reads.told (λ image is tells j inside ascend. part_told image tells j inside ascend part mid.way reads.way.left less reads.part is own);
@@ -320,7 +333,7 @@ module _ (held : Option (List (List ℕ))) (b : ℕ) (range : Range) (old : Visi
   budget : 64 - old.way.stack.depth ≡ suc (63 - old.way.stack.depth)
   budget = omega arith
 
-  more_number : (n : ℕ) → n ≡ way_number old.way → n < way_number old.way + child_weight (64 - old.way.stack.depth)
+  more_number : (n : ℕ) → n ≡ way_number 8 old.way → n < way_number 8 old.way + child_weight (64 - old.way.stack.depth)
   more_number n same = let some = unit_some (64 - old.way.stack.depth) in omega arith
 
   pub meets_visited : (new : Visiting) → Visits held b range old new → Meets held b range old new
@@ -328,7 +341,7 @@ module _ (held : Option (List (List ℕ))) (b : ℕ) (range : Range) (old : Visi
     same = visits.same;
     ready = visits.ready;
     grow = visits.grow;
-    number = more_number (way_number new.way) visits.way.number;
+    number = more_number (way_number 8 new.way) visits.way.number;
     told = IfSome_then held visits.told (λ image told tells ascend.
         rw budget (told tells (63 - old.way.stack.depth) (wanted old.s.meta_map.blocks b range is_in).0 (rw budget at ascend)));
   }
@@ -341,11 +354,11 @@ module _ (held : Option (List (List ℕ))) (b : ℕ) (range : Range) (old : Visi
         same = visits.same ∙ s;
         ready = visits.ready;
         grow = λ k n at. visits.grow k n (notes.grow k n at);
-        number = more_number (way_number new.way) (visits.way.number ∙ notes.way.number);
+        number = more_number (way_number 8 new.way) (visits.way.number ∙ notes.way.number);
         told =
             if_both held
             (λ image held_is to_mid told tells ascend.
-            let left = notes.way.left old.s image in
+            let left = same_left old.s image old.way mid.way notes.way.left in
             let before : AreMappings mid.s.data_map.blocks mid.least (maps (mets_below mid.s image (suc (63 - old.way.stack.depth)) range b ++ way_left mid.s image mid.way)) =
             rw (s, notes.same.3, left) (rw budget at ascend) in
             let outside : is_outside mid.s.meta_map.blocks b ≡ false = rw s (wanted old.s.meta_map.blocks b range is_in).0 in

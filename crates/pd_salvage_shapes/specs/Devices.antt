@@ -32,7 +32,7 @@ shaped_devices ones notes (t ∷ tops) (d ∷ seen) = shaped_device ones notes t
 -- what a device met was taken
 pub record TakesDevice (notes : List Note) (numbers met : List ℕ) (count : ℕ) (old new : Piecing) : Type 0 where
   pub idle : IsIdle new
-  pub has : (ones : List ℕ) → AreNumbers ones numbers → HasPieces ones old.pieces.items old.runs.items new (mets_of notes met)
+  pub has : (ones : List ℕ) → AreNumbers ones numbers → HasPieces ones old.pieces.items old.runs new (mets_of notes met)
   pub counted : (ones : List ℕ) → AreNumbers ones numbers → length old.pieces.items + count ≡ length new.pieces.items
 
 -- a device was added
@@ -43,7 +43,7 @@ pub record AddsDevice (notes : List Note) (numbers : List ℕ) (t : Top) (d : Se
 
 -- the pieces and the runs of these devices
 pub record AreShaped (ones : List ℕ) (notes : List Note) (tops : List Top) (seen : List Seen) (shaped : ShapedDevices) : Type 0 where
-  pub means : map device_of_part (device_parts shaped.devices.items shaped.piecing.pieces.items shaped.piecing.runs.items) ≡ shaped_devices ones notes tops seen
-  pub joined : AllByRecursion IsPartJoined (device_parts shaped.devices.items shaped.piecing.pieces.items shaped.piecing.runs.items)
+  pub means : map device_of_part (device_parts shaped.devices.items shaped.piecing.pieces.items shaped.piecing.runs) ≡ shaped_devices ones notes tops seen
+  pub joined : AllByRecursion IsPartJoined (device_parts shaped.devices.items shaped.piecing.pieces.items shaped.piecing.runs)
   pub piece_number : sum_by (λ (d : ShapedDevice). d.pieces) shaped.devices.items ≡ length shaped.piecing.pieces.items
-  pub number : runs_of_pieces shaped.piecing.pieces.items ≡ length shaped.piecing.runs.items
+  pub number : runs_of_pieces shaped.piecing.pieces.items ≡ length shaped.piecing.runs

@@ -7,5 +7,4 @@ pub mod Devices
 pub mod SeenShape
 pub mod Seen
 pub mod Shared
-pub mod Way
 pub mod Visiting

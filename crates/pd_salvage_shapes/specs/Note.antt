@@ -41,12 +41,12 @@ end_key (m ∷ n ∷ ms) = end_key (n ∷ ms)
 
 -- the mappings that are noted
 abbrev pub noted : Note → List Mapping
-noted note = mappings_of_runs note.runs.items
+noted note = mappings_of_runs note.runs
 
 -- a note's mappings are lawful, its runs are as long as can be, and its numbers are those of its mappings
 pub record IsNote (blocks : ℕ) (note : Note) : Type 0 where
   pub lawful : AreMappings blocks 0 (noted note)
-  pub joined : joined_runs (noted note) ≡ map spelled note.runs.items
+  pub joined : joined_runs (noted note) ≡ map spelled note.runs
   pub counted : note.entries ≡ length (noted note)
   pub first : note.first ≡ first_key (noted note)
   pub end : note.end ≡ end_key (noted note)

@@ -48,12 +48,12 @@ own_piece (r ∷ rs) = Own (length (r ∷ rs)) ∷ []
 -- the begun piece was ended
 pub record EndsOwn (old new : Piecing) (before : List Run) (ms : List Mapping) : Type 0 where
   pub given : List Run
-  pub runs_are : new.runs.items ≡ before ++ given
+  pub runs_are : new.runs ≡ before ++ given
   pub written : ms ≡ mappings_of_runs given
   pub joined : joined_runs ms ≡ map spelled given
   pub pieces_are : new.pieces.items ≡ old.pieces.items ++ own_piece given
   pub none : new.joining.begun ≡ None
-  pub first : new.first ≡ length new.runs.items
+  pub first : new.first ≡ length new.runs
 
 -- behind pieces and runs that were there before stand those of what was met, the last own piece still open
 pub record IsPiecing (ones : List ℕ) (pieces : List SavedPiece) (runs : List Run) (p : Piecing) (done : List Met) : Type 0 where
@@ -61,7 +61,7 @@ pub record IsPiecing (ones : List ℕ) (pieces : List SavedPiece) (runs : List R
   pub given_runs : List Run
   pub mappings : List Mapping
   pub pieces_are : p.pieces.items ≡ pieces ++ given
-  pub joining : IsJoining (runs ++ given_runs) p.runs.items p.joining mappings
+  pub joining : IsJoining (runs ++ given_runs) p.runs p.joining mappings
   pub first : p.first ≡ length (runs ++ given_runs)
   pub number : runs_of_pieces given ≡ length given_runs
   pub joined : AllByRecursion IsPieceJoined (piece_parts given given_runs)
@@ -72,7 +72,7 @@ pub record HasPieces (ones : List ℕ) (pieces : List SavedPiece) (runs : List R
   pub given : List SavedPiece
   pub given_runs : List Run
   pub pieces_are : p.pieces.items ≡ pieces ++ given
-  pub runs_are : p.runs.items ≡ runs ++ given_runs
+  pub runs_are : p.runs ≡ runs ++ given_runs
   pub number : runs_of_pieces given ≡ length given_runs
   pub joined : AllByRecursion IsPieceJoined (piece_parts given given_runs)
   pub means : map piece_of_part (piece_parts given given_runs) ≡ pieces_of_mets ones mets
@@ -80,7 +80,7 @@ pub record HasPieces (ones : List ℕ) (pieces : List SavedPiece) (runs : List R
 -- nothing is begun
 pub record IsIdle (p : Piecing) : Type 0 where
   pub none : p.joining.begun ≡ None
-  pub first : p.first ≡ length p.runs.items
+  pub first : p.first ≡ length p.runs
 
 -- a note was taken, as a leaf or as one of a device's own
 abbrev pub TakesMet : Note → ℕ → Piecing → Piecing → Type 0

@@ -27,7 +27,7 @@ note_at places notes b = slice_get notes (slice_index places b - 1)
 -- its runs and its mappings
 abbrev pub runs_of_note : Option Note → List Run
 runs_of_note None = []
-runs_of_note (Some note) = note.runs.items
+runs_of_note (Some note) = note.runs
 
 abbrev pub leaf_runs : List ℕ → List Note → ℕ → List Run
 leaf_runs places notes b = runs_of_note (note_at places notes b)
@@ -46,14 +46,14 @@ AreCountedNotes notes = (k : ℕ) (note : Note) → slice_get notes k ≡ Some n
 -- a leaf was added
 pub record AddsLeaf (note : Note) (old new : SharedLeaves) : Type 0 where
   pub numbers : new.numbers.items ≡ old.numbers.items ++ length new.leaves.items ∷ []
-  pub leaves : new.leaves.items ≡ old.leaves.items ++ record { entries = note.entries; runs = length note.runs.items } ∷ []
-  pub runs : new.runs.items ≡ old.runs.items ++ note.runs.items
+  pub leaves : new.leaves.items ≡ old.leaves.items ++ record { entries = note.entries; runs = length note.runs } ∷ []
+  pub runs : new.runs ≡ old.runs ++ note.runs
 
 -- the shared leaves below a number of blocks
 pub record IsSharing (uses places : List ℕ) (notes : List Note) (s : SharedLeaves) (n : ℕ) : Type 0 where
   pub count : length s.numbers.items ≡ n
   pub numbers : (b : ℕ) → b < n → slice_index s.numbers.items b ≡ above (number_of_leaf (shared_below uses n) (Some b))
-  pub leaves : leaf_parts s.leaves.items s.runs.items ≡ map (λ b. map spelled (leaf_runs places notes b)) (shared_below uses n)
+  pub leaves : leaf_parts s.leaves.items s.runs ≡ map (λ b. map spelled (leaf_runs places notes b)) (shared_below uses n)
   pub leaf_count : length s.leaves.items ≡ length (shared_below uses n)
-  pub counted : AreCounted s.leaves.items s.runs.items
-  pub number : sum_by (λ (leaf : SavedLeaf). leaf.runs) s.leaves.items ≡ length s.runs.items
+  pub counted : AreCounted s.leaves.items s.runs
+  pub number : sum_by (λ (leaf : SavedLeaf). leaf.runs) s.leaves.items ≡ length s.runs

@@ -19,7 +19,7 @@ AreUses blocks uses = (b : ℕ) → b < length uses → slice_index uses b ≡ m
 
 -- the notes' runs are a pool's, and those of whole leaves have mappings, and their blocks are among so many
 pub record AreSized (blocks : ℕ) (notes : List Note) : Type 0 where
-  pub runs : (k : ℕ) (note : Note) → slice_get notes k ≡ Some note → AreRuns note.runs.items
+  pub runs : (k : ℕ) (note : Note) → slice_get notes k ≡ Some note → AreRuns note.runs
   pub some : (k : ℕ) (note : Note) → slice_get notes k ≡ Some note → note.full ≡ true → 1 ≤ length (noted note)
   pub within : (k : ℕ) (note : Note) → slice_get notes k ≡ Some note → note.full ≡ true → note.block < blocks
 

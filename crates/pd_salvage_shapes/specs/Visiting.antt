@@ -9,12 +9,13 @@ use Rattle.pd_spells.specs.Lawful.{AreMappings}
 use Rattle.pd_tree.specs.Stack.{child_weight, last_place}
 use Rattle.pd_salvage.specs.declared.range.Range.{Range}
 use Rattle.pd_salvage.specs.Range.{is_in_range}
+use Rattle.pd_salvage.specs.Steps.{PopsNode, SameWay}
+use Rattle.pd_salvage.specs.Way.{way_number}
 use Rattle.pd_salvage_shapes.specs.declared.note.Note.{Note}
 use Rattle.pd_salvage_shapes.specs.declared.visiting.Seen.{Seen}
 use Rattle.pd_salvage_shapes.specs.declared.visiting.Visiting.{Visiting}
-use Rattle.pd_salvage_shapes.specs.Mets.{Met, mets_below, mets_of_root}
+use Rattle.pd_salvage_shapes.specs.Mets.{Met, mets_below, mets_of_root, way_left}
 use Rattle.pd_salvage_shapes.specs.Note.{IsNote, in_keys, met_in, met_of_note, noted, saved_at}
-use Rattle.pd_salvage_shapes.specs.Way.{PopsNode, way_left, way_number}
 
 -- the mappings of what was met
 abbrev pub maps : List Met → List Mapping
@@ -84,12 +85,6 @@ pub record TakesOwn (note : Note) (old new : Visiting) : Type 0 where
   pub rest : (rest : List Mapping) → AreMappings old.s.data_map.blocks old.least (noted note ++ rest) → AreMappings old.s.data_map.blocks new.least rest
   pub tells : (image : List (List ℕ)) → TellsAll image old → TellsAll image new
 
--- nothing but the way changed, and that is left as it was
-pub record SameWay (old new : Visiting) : Type 0 where
-  pub depth : new.way.stack.depth ≡ old.way.stack.depth
-  pub left : (fields : ThinFields) (image : List (List ℕ)) → way_left fields image new.way ≡ way_left fields image old.way
-  pub number : way_number new.way ≡ way_number old.way
-
 -- the last node on the way was noted as a block's leaf, and forgotten
 pub record NotesTop (b : ℕ) (old new : Visiting) : Type 0 where
   pub same : (new.s ≡ old.s) × (new.met ≡ old.met) × (new.mapped ≡ old.mapped) × (new.least ≡ old.least)
@@ -102,13 +97,13 @@ pub record NotesTop (b : ℕ) (old new : Visiting) : Type 0 where
 -- a block was read: a sound inner node is the last one on the way
 pub record StaysOnWay (held : Option (List (List ℕ))) (b : ℕ) (range : Range) (old new : Visiting) : Type 0 where
   pub same : new ≡ record old { way = new.way }
-  pub number : way_number new.way < way_number old.way + child_weight (64 - old.way.stack.depth)
+  pub number : way_number 8 new.way < way_number 8 old.way + child_weight (64 - old.way.stack.depth)
   pub left : IfSome held (λ image. way_left old.s image new.way ≡ mets_below old.s image (64 - old.way.stack.depth) range b ++ way_left old.s image old.way)
 
 -- and any other is noted
 pub record IsNoted (held : Option (List (List ℕ))) (b : ℕ) (old new : Visiting) : Type 0 where
   pub same : (new.s ≡ old.s) × (new.met ≡ old.met) × (new.mapped ≡ old.mapped) × (new.least ≡ old.least)
-  pub way : SameWay old new
+  pub way : SameWay 8 old.way new.way
   pub ready : IsReady new
   pub grow : Grow old.notes.items new.notes.items
   pub named : 1 ≤ slice_index new.places.items b
@@ -121,7 +116,7 @@ ReadsNew held false b range old new = IsNoted held b old new
 -- a part of a leaf was read
 pub record ReadsPart (held : Option (List (List ℕ))) (b : ℕ) (range : Range) (note : Note) (old new : Visiting) : Type 0 where
   pub same : new ≡ record old { way = new.way }
-  pub way : SameWay old new
+  pub way : SameWay 8 old.way new.way
   pub sound : IsNote old.s.data_map.blocks note
   pub part : note.full ≡ false
   pub inside : in_keys range (noted note) ≡ noted note
@@ -138,7 +133,7 @@ pub record Visits (held : Option (List (List ℕ))) (b : ℕ) (range : Range) (o
   pub same : new.s ≡ old.s
   pub ready : IsReady new
   pub grow : Grow old.notes.items new.notes.items
-  pub way : SameWay old new
+  pub way : SameWay 8 old.way new.way
   pub told : IfSome held (λ image. TellsAll image old
       → (j : ℕ) → is_outside old.s.meta_map.blocks b ≡ false → AreMappings old.s.data_map.blocks old.least (maps (mets_below old.s image (suc j) range b ++ way_left old.s image old.way))
       → MeetsAll image (mets_now old ++ (mets_below old.s image (suc j) range b ++ way_left old.s image old.way)) new)
@@ -148,7 +143,7 @@ pub record Meets (held : Option (List (List ℕ))) (b : ℕ) (range : Range) (ol
   pub same : new.s ≡ old.s
   pub ready : IsReady new
   pub grow : Grow old.notes.items new.notes.items
-  pub number : way_number new.way < way_number old.way + child_weight (64 - old.way.stack.depth)
+  pub number : way_number 8 new.way < way_number 8 old.way + child_weight (64 - old.way.stack.depth)
   pub told : IfSome held (λ image. TellsAll image old
       → AreMappings old.s.data_map.blocks old.least (maps (mets_below old.s image (64 - old.way.stack.depth) range b ++ way_left old.s image old.way))
       → MeetsAll image (mets_now old ++ (mets_below old.s image (64 - old.way.stack.depth) range b ++ way_left old.s image old.way)) new)

@@ -12,6 +12,7 @@ use crate::visiting::Seen;
 use pd_salvage::ShapedDevice;
 use pd_value::Details;
 use std::alloc::{AllocError, Global};
+use std::mem;
 
 /// Devices, and the pieces and runs of all of them.
 #[derive(Drop)]
@@ -56,25 +57,40 @@ impl ShapedDevices {
     }
 }
 
-/// The devices with the pieces of what they met.
+/// How many notes devices met. They have no more pieces.
+fn count_met(seen: &[Seen]) -> usize {
+    let mut count = 0usize;
+    for device in seen {
+        count = count.saturating_add(device.met.len());
+    }
+    count
+}
+
+/// The devices with the pieces of what they met, of which each list is freed once its pieces are made.
 pub(crate) fn shape_devices(
     alloc: Global,
     notes: &[Note],
     numbers: &[u32],
     tops: &[Top],
-    seen: &[Seen],
+    seen: &mut [Seen],
 ) -> Result<ShapedDevices, AllocError>
     requires sized { AreSized (length numbers.now) notes.now }
-    requires within { AllWithin notes.now seen.now }
-    requires each { length seen.now ≡ length tops.now }
-    ensures { IfOk result (λ shaped. (ones : List ℕ) → AreNumbers ones numbers.now → AreShaped ones notes.now tops.now seen.now shaped) }
+    requires within { AllWithin notes.now seen.old }
+    requires each { length seen.old ≡ length tops.now }
+    ensures { IfOk result (λ shaped. (ones : List ℕ) → AreNumbers ones numbers.now → AreShaped ones notes.now tops.now seen.old shaped) }
 {
+    let piecing = Piecing::with_room(alloc, count_met(seen))?;
     let mut shaped = ShapedDevices {
         devices: Vec::new(alloc),
-        piecing: Piecing::new(alloc),
+        piecing,
     };
     for i in 0..tops.len() {
-        shaped.add(notes, numbers, &tops[i], &seen[i])?;
+        let none = Seen {
+            met: Vec::new(alloc),
+            mapped: 0,
+        };
+        let one = mem::replace(&mut seen[i], none);
+        shaped.add(notes, numbers, &tops[i], &one)?;
     }
     Ok(shaped)
 }

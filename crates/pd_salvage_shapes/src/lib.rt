@@ -13,6 +13,5 @@ mod shared;
 mod tops;
 mod uses;
 mod visiting;
-mod way;
 
 pub use shape::salvage_shape;

@@ -9,6 +9,7 @@ ghost use Rattle.pd_salvage_shapes.specs.Note.{IsGathered, IsNote, Notes, in_key
 
 use pd_kinds::Block;
 use pd_node::{entries, is_inner, key, value};
+use pd_runs::PackedRuns;
 use pd_salvage::{Joining, Range, is_sound};
 use pd_thin_meaning::Run;
 use pd_value::BlockTime;
@@ -30,7 +31,7 @@ pub(crate) struct Note {
     pub(crate) first: u64,
     /// The end of the keys, or 0 where nothing is saved.
     pub(crate) end: u128,
-    pub(crate) runs: Vec<Run>,
+    pub(crate) runs: PackedRuns,
 }
 
 /// What was gathered of a leaf, but for the runs that are done.
@@ -60,9 +61,14 @@ impl LeafGathering {
     ghost use Rattle.pd_salvage_shapes.specs.Note.{IsGathered, saved_in};
 
     /// Takes the next mapping.
-    fn take(&mut self, runs: &mut Vec<Run>, virt: u64, mapping: BlockTime) -> Result<(), AllocError>
+    fn take(
+        &mut self,
+        runs: &mut PackedRuns,
+        virt: u64,
+        mapping: BlockTime,
+    ) -> Result<(), AllocError>
         requires { mapping.block < 2 ^ 40 }
-        ensures { OnOk result ((ms : List Mapping) → IsGathered runs.old.items self.old ms → IsGathered runs.new.items self.new (ms ++ mapping_of (virt, mapping) ∷ [])) }
+        ensures { OnOk result ((ms : List Mapping) → IsGathered runs.old self.old ms → IsGathered runs.new self.new (ms ++ mapping_of (virt, mapping) ∷ [])) }
     {
         if self.mapped == u64::MAX {
             return Err(AllocError);
@@ -86,7 +92,7 @@ impl LeafGathering {
     /// Takes entry `i` of a leaf, where it is in the range and its data block is below the number.
     fn take_entry(
         &mut self,
-        runs: &mut Vec<Run>,
+        runs: &mut PackedRuns,
         block: &Block,
         i: usize,
         range: &Range,
@@ -94,8 +100,8 @@ impl LeafGathering {
     ) -> Result<(), AllocError>
         requires within { i < entry_count 8 block.now.0 }
         requires leaf { is_inner_node block.now.0 ≡ false }
-        ensures takes { OnOk result ((ms : List Mapping) → IsGathered runs.old.items self.old ms
-            → IsGathered runs.new.items self.new (ms ++ saved_in blocks range.now (record { key = key_at block.now.0 i; value = value_at 8 block.now.0 i } ∷ []))) }
+        ensures takes { OnOk result ((ms : List Mapping) → IsGathered runs.old self.old ms
+            → IsGathered runs.new self.new (ms ++ saved_in blocks range.now (record { key = key_at block.now.0 i; value = value_at 8 block.now.0 i } ∷ []))) }
         ensures fits { key_at block.now.0 i < 2 ^ 64 }
     {
         let virt = key::<BlockTime>(block, i);
@@ -143,11 +149,11 @@ fn gather_leaf(
     block: &Block,
     range: &Range,
     blocks: u64,
-    runs: &mut Vec<Run>,
+    runs: &mut PackedRuns,
 ) -> Result<LeafGathering, AllocError>
-    requires empty { runs.old.items ≡ [] }
+    requires empty { runs.old ≡ [] }
     requires leaf { is_inner_node block.now.0 ≡ false }
-    ensures gathered { IfOk result (λ gathering. IsGathered runs.new.items gathering
+    ensures gathered { IfOk result (λ gathering. IsGathered runs.new gathering
         (saved_in blocks range.now (map (λ i. record { key = key_at block.now.0 i; value = value_at 8 block.now.0 i }) (range_with_len 0 (entry_count 8 block.now.0))))) }
     ensures fits { OnOk result ((i : ℕ) → i < entry_count 8 block.now.0 → key_at block.now.0 i < 2 ^ 64) }
 {
@@ -180,7 +186,7 @@ pub(crate) fn note_of(
     if is_inner(block) {
         return Ok(no_note(alloc, place));
     }
-    let mut runs = Vec::new(alloc);
+    let mut runs = PackedRuns::new(alloc);
     let mut gathering = gather_leaf(block, range, blocks, &mut runs)?;
     gathering.joining.end(&mut runs)?;
     let full = is_all(gathering.mapped, entries::<BlockTime>(block) as u64);
@@ -207,6 +213,6 @@ fn no_note(alloc: Global, place: u64) -> Note
         entries: 0,
         first: 0,
         end: 0,
-        runs: Vec::new(alloc),
+        runs: PackedRuns::new(alloc),
     }
 }

@@ -4,15 +4,15 @@ ghost use Rattle.std.specs.Prelude.{◌≡◌, ◌<◌, ℕ, List, Some, None, t
 ghost use Rattle.pd_salvage_shapes.specs.Pieces.{AreNumbers, above, number_of_leaf};
 
 use crate::note::Note;
+use pd_runs::PackedRuns;
 use pd_salvage::{Joining, SavedPiece};
-use pd_thin_meaning::Run;
 use std::alloc::{AllocError, Global};
 
 /// The pieces and the runs that were made, and the piece of a device's own that was begun.
 #[derive(Drop)]
 pub(crate) struct Piecing {
     pub(crate) pieces: Vec<SavedPiece>,
-    pub(crate) runs: Vec<Run>,
+    pub(crate) runs: PackedRuns,
     joining: Joining,
     /// How many runs there were when the piece was begun.
     first: usize,
@@ -27,34 +27,35 @@ impl Piecing {
     ghost use Rattle.pd_salvage_shapes.specs.Pieces.{AreRuns, EndsOwn, IsIdle, TakesMet};
     ghost use Rattle.pd_salvage_shapes.specs.Uses.{AreSized, AreWithin};
 
-    /// No piece.
-    pub(crate) fn new(alloc: Global) -> Piecing
-        ensures idle { IsIdle result }
-        ensures none { (result.pieces.items ≡ []) × (result.runs.items ≡ []) }
+    /// No piece, with room for so many.
+    pub(crate) fn with_room(alloc: Global, pieces: usize) -> Result<Piecing, AllocError>
+        ensures idle { IfOk result IsIdle }
+        ensures none { IfOk result (λ piecing. (piecing.pieces.items ≡ []) × (piecing.runs ≡ [])) }
     {
-        Piecing {
-            pieces: Vec::new(alloc),
-            runs: Vec::new(alloc),
+        Ok(Piecing {
+            pieces: Vec::with_capacity(alloc, pieces)?,
+            runs: PackedRuns::new(alloc),
             joining: Joining { begun: None },
             first: 0,
-        }
+        })
     }
 
     /// Takes runs of a device's own.
-    fn take_runs(&mut self, runs: &[Run]) -> Result<(), AllocError>
+    fn take_runs(&mut self, runs: &PackedRuns) -> Result<(), AllocError>
         requires { AreRuns runs.now }
-        ensures takes { OnOk result (Takes (mappings_of_runs runs.now) self.old.runs.items self.new.runs.items self.old.joining self.new.joining) }
+        ensures takes { OnOk result (Takes (mappings_of_runs runs.now) self.old.runs self.new.runs self.old.joining self.new.joining) }
         ensures same { (self.new.pieces ≡ self.old.pieces) × (self.new.first ≡ self.old.first) }
     {
-        for run in runs {
-            self.joining.take(&mut self.runs, *run)?;
+        let mut place = runs.first();
+        while let Some(run) = runs.next(&mut place) {
+            self.joining.take(&mut self.runs, run)?;
         }
         Ok(())
     }
 
     /// Ends the begun piece.
     fn end_own(&mut self) -> Result<(), AllocError>
-        ensures ends { OnOk result ((before : List Run) (ms : List Mapping) → IsJoining before self.old.runs.items self.old.joining ms → self.old.first ≡ length before
+        ensures ends { OnOk result ((before : List Run) (ms : List Mapping) → IsJoining before self.old.runs self.old.joining ms → self.old.first ≡ length before
             → EndsOwn self.old self.new before ms) }
         ensures idle { OnOk result (IsIdle self.new) }
     {
@@ -74,11 +75,11 @@ impl Piecing {
 
     /// Takes a note: all of the shared leaf with the number below this, or of the device's own where this is 0.
     fn take_met(&mut self, note: &Note, number: u32) -> Result<(), AllocError>
-        requires { AreRuns note.now.runs.items }
+        requires { AreRuns note.now.runs }
         ensures { OnOk result (TakesMet note.now number self.old self.new) }
     {
         if number == 0 {
-            self.take_runs(note.runs.as_slice())?;
+            self.take_runs(&note.runs)?;
             return Ok(());
         }
         self.end_own()?;

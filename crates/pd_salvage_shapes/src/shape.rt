@@ -24,7 +24,8 @@ use std::alloc::{AllocError, Global};
 /// What is saved of the pool with this superblock, with the leaves that its devices share.
 ///
 /// An inner node is read once for each device and range of keys that isn't empty. A leaf is read once, and once more for
-/// each range that cuts it; the runs of each are held once while this works, and of each device 4 bytes a leaf.
+/// each range that cuts it. While this works, the runs of each are held once, and of each device 4 bytes for each leaf that
+/// it met, until its pieces are made. Room for the pieces is taken at once: 8 bytes for each leaf that a device met.
 ///
 /// Fails with `Device` where a read failed, and with `Memory` where memory wasn't found.
 pub fn salvage_shape<D: Device>(
@@ -46,27 +47,27 @@ pub fn salvage_shape<D: Device>(
         Ok(visiting) => visiting,
         Err(_) => return Err(SalvageFault::Memory),
     };
-    let seen = see_all(alloc, &mut visiting, dev, tops.as_slice())?;
-    match shape_of(alloc, &visiting, tops.as_slice(), seen.as_slice()) {
+    let mut seen = see_all(alloc, &mut visiting, dev, tops.as_slice())?;
+    match shape_of(alloc, &visiting, tops.as_slice(), seen.as_mut_slice()) {
         Ok(shape) => Ok(shape),
         Err(_) => Err(SalvageFault::Memory),
     }
 }
 
-/// The shape of what was met of these devices.
+/// The shape of what was met of these devices, which it uses up.
 fn shape_of(
     alloc: Global,
     visiting: &Visiting,
     tops: &[Top],
-    seen: &[Seen],
+    seen: &mut [Seen],
 ) -> Result<SavedShape, AllocError>
     requires few { visiting.now.s.meta_map.blocks ≤ 4161600 }
     requires data { visiting.now.s.data_map.blocks ≤ 2 ^ 40 }
     requires table { HasTable visiting.now }
-    requires each { length seen.now ≡ length tops.now }
-    requires seen { AllByRecursion (IsSeen visiting.now.s.data_map.blocks visiting.now.notes.items) seen.now }
+    requires each { length seen.old ≡ length tops.now }
+    requires seen { AllByRecursion (IsSeen visiting.now.s.data_map.blocks visiting.now.notes.items) seen.old }
     requires tops { AreTops 0 tops.now }
-    ensures { IfOk result (λ shape. held_shape shape ≡ seen_shape visiting.now.s visiting.now.places.items visiting.now.notes.items tops.now seen.now) }
+    ensures { IfOk result (λ shape. held_shape shape ≡ seen_shape visiting.now.s visiting.now.places.items visiting.now.notes.items tops.now seen.old) }
 {
     let notes = visiting.notes.as_slice();
     let places = visiting.places.as_slice();

@@ -4,8 +4,8 @@ ghost use Rattle.std.specs.Prelude.{◌≡◌, ◌++◌, length, IfOk, OnOk};
 ghost use Rattle.pd_salvage_shapes.specs.Shared.{AreCountedNotes, AreNamed, IsSharing};
 
 use crate::note::Note;
+use pd_runs::PackedRuns;
 use pd_salvage::SavedLeaf;
-use pd_thin_meaning::Run;
 use std::alloc::{AllocError, Global};
 
 /// The shared leaves, by ascending block.
@@ -15,7 +15,7 @@ pub(crate) struct SharedLeaves {
     pub(crate) numbers: Vec<u32>,
     pub(crate) leaves: Vec<SavedLeaf>,
     /// The runs of all of them.
-    pub(crate) runs: Vec<Run>,
+    pub(crate) runs: PackedRuns,
 }
 
 impl SharedLeaves {
@@ -38,7 +38,7 @@ impl SharedLeaves {
             entries: note.entries,
             runs: note.runs.len(),
         })?;
-        add_runs(&mut self.runs, note.runs.as_slice())?;
+        add_runs(&mut self.runs, &note.runs)?;
         let number = match u32::try_from(self.leaves.len()) {
             Ok(number) => number,
             Err(_) => return Err(AllocError),
@@ -76,11 +76,12 @@ impl SharedLeaves {
 }
 
 /// Adds runs behind others.
-fn add_runs(runs: &mut Vec<Run>, more: &[Run]) -> Result<(), AllocError>
-    ensures { OnOk result (runs.new.items ≡ runs.old.items ++ more.now) }
+fn add_runs(runs: &mut PackedRuns, more: &PackedRuns) -> Result<(), AllocError>
+    ensures { OnOk result (runs.new ≡ runs.old ++ more.now) }
 {
-    for run in more {
-        runs.push(*run)?;
+    let mut place = more.first();
+    while let Some(run) = more.next(&mut place) {
+        runs.push(run)?;
     }
     Ok(())
 }
@@ -100,7 +101,7 @@ pub(crate) fn share(
     let mut shared = SharedLeaves {
         numbers: Vec::new(alloc),
         leaves: Vec::new(alloc),
-        runs: Vec::new(alloc),
+        runs: PackedRuns::new(alloc),
     };
     for b in 0..uses.len() {
         shared.take(uses, places, notes, b)?;

@@ -6,11 +6,10 @@ ghost use Rattle.pd_laid.specs.Salvage.{is_damaged};
 ghost use Rattle.pd_salvage_shapes.specs.Visiting.{IsRaised};
 
 use crate::note::{Note, note_of};
-use crate::way::{Step, Way};
 use pd_image::Device;
 use pd_kinds::{Block, ThinSuper};
 use pd_node::is_inner;
-use pd_salvage::{Range, SalvageFault, is_sound, is_wanted};
+use pd_salvage::{Range, SalvageFault, Taken, Way, is_sound, is_wanted};
 use pd_value::BlockTime;
 use std::alloc::{AllocError, Global};
 
@@ -144,7 +143,7 @@ impl Visiting {
         ensures kept { OnlyReads (D.state dev.old) (D.state dev.new) }
         ensures faults { CountsSalvage result (D.state dev.old).faults (D.state dev.new).faults }
     {
-        match self.way.push(dev, b, range) {
+        match self.way.push::<BlockTime, D>(dev, b, range) {
             Ok(()) => {}
             Err(_) => return Err(SalvageFault::Device),
         }
@@ -171,7 +170,7 @@ impl Visiting {
         ensures kept { OnlyReads (D.state dev.old) (D.state dev.new) }
         ensures faults { CountsSalvage result (D.state dev.old).faults (D.state dev.new).faults }
     {
-        match self.way.push(dev, b, range) {
+        match self.way.push::<BlockTime, D>(dev, b, range) {
             Ok(()) => {}
             Err(_) => return Err(SalvageFault::Device),
         }
@@ -286,9 +285,10 @@ impl Visiting {
         ensures faults { CountsSalvage result (D.state dev.old).faults (D.state dev.new).faults }
     {
         'steps: while !self.way.is_empty() {
-            match self.way.step() {
-                Step::Passed => {}
-                Step::Child(b, range) => self.meet(dev, b, range)?,
+            match self.way.step::<BlockTime>() {
+                Taken::Passed => {}
+                Taken::Child(b, range) => self.meet(dev, b, range)?,
+                Taken::Entry(_, _) => {}
             }
         }
         Ok(())

@@ -41,7 +41,7 @@ returns-clause-notes c =
     let gathered = c.in_ok-gathering.ensures.gathered in
     let sound = not-true (is_damaged 8 c.args.place block) (sym c.if-not-is_sound.ensures) in
     let leaf : is_inner_node block ≡ false = sym c.if-is_inner.ensures in
-    let mappings = gathered_mappings c.end.new.runs.items c.in_ok-gathering.gathering ms c.gather_leaf.new.runs.items gathered (c.in_ok-end.ensures [] ms gathered.joining) in
+    let mappings = gathered_mappings c.end.new.runs c.in_ok-gathering.gathering ms c.gather_leaf.new.runs gathered (c.in_ok-end.ensures [] ms gathered.joining) in
     record {
       at = refl;
       mappings = mappings ∙ sym (sound_saved c.args.blocks c.args.place block c.args.range.now sound leaf);
@@ -55,6 +55,6 @@ returns-clause-sound c =
     let ms = saved_in c.args.blocks c.args.range.now (map (entry_at block) (range_with_len 0 (entry_count 8 block))) in
     let gathered = c.in_ok-gathering.ensures.gathered in
     let sound = not-true (is_damaged 8 c.args.place block) (sym c.if-not-is_sound.ensures) in
-    gathered_note c.end.new.runs.items c.in_ok-gathering.gathering ms c.gather_leaf.new.runs.items gathered (c.in_ok-end.ensures [] ms gathered.joining)
+    gathered_note c.end.new.runs c.in_ok-gathering.gathering ms c.gather_leaf.new.runs gathered (c.in_ok-end.ensures [] ms gathered.joining)
     c.args.blocks _ refl refl refl refl (λ full. sized_is c.in_ok-gathering.gathering.mapped c.entries.result (sym c.is_all-full.ensures ∙ full))
     (saved_lawful c.args.blocks c.args.place block c.args.range.now sound c.in_ok-gathering.ensures.fits)

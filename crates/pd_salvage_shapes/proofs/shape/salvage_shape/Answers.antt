@@ -17,5 +17,5 @@ returns-in-Ok-shape_of-clause-saved g c =
     let sees =
     subst (λ o. SeesAll o tops seen started v) c.in_ok-tops.ensures.kept.held
     (subst (λ (ts : List Top). SeesAll (g.D.Device.state c.read_tops.new.dev).held ts seen started v) c.as_slice.ensures.value c.in_ok-seen.ensures.sees) in
-    let is = c.in-Ok-shape_of.ensures ∙ ap₂ (λ (ts : List Top) (ds : List Seen). seen_shape v.s v.places.items v.notes.items ts ds) c.as_slice-2.ensures.value c.as_slice-3.ensures.value in
+    let is = c.in-Ok-shape_of.ensures ∙ ap₂ (λ (ts : List Top) (ds : List Seen). seen_shape v.s v.places.items v.notes.items ts ds) c.as_slice-2.ensures.value c.as_mut_slice.ensures.value in
     told_shape held c.args.s.now tops seen started v (held_shape c.in-Ok-shape_of.shape) c.in_ok-tops.ensures.told c.in-Ok.ensures sees is

@@ -1,6 +1,10 @@
-use Rattle.std.proofs.Common.{◌≡◌, ◌++◌, take}
+use Rattle.std.proofs.Common.{◌≡◌, ◌++◌, length}
+use Rattle.pd_runs.specs.Places.{runs_from}
 use Rattle.pd_salvage_shapes.proofs.shared.add_runs.Given as goal
 
--- the runs before this one were added
+-- the runs that are left are still to be added
 abbrev pub invariant-loop-run : goal.invariant-loop-run
-invariant-loop-run l = l.runs.items ≡ l.initial.runs.items ++ take l.run-index l.more
+invariant-loop-run l = l.runs ++ runs_from l.more l.place ≡ l.initial.runs ++ l.more
+
+abbrev pub decreases-loop-run : goal.decreases-loop-run
+decreases-loop-run l = length (runs_from l.more l.place)

@@ -11,7 +11,7 @@ use Rattle.pd_salvage_shapes.proofs.pieces.Piecing.take_device.Goals as goal
 
 pub loop-k-init : goal.loop-k-init
 loop-k-init c = record {
-  piecing = λ ones are. begins ones c.args.self.now.pieces.items c.args.self.now.runs.items c.args.self.now c.requires.idle refl refl;
+  piecing = λ ones are. begins ones c.args.self.now.pieces.items c.args.self.now.runs c.args.self.now c.requires.idle refl refl;
 }
 
 pub number_of-number-requires : goal.number_of-number-requires
@@ -41,8 +41,8 @@ loop-k-preserved c =
     let number = c.number_of-number.ensures in
     record {
       piecing = λ ones are.
-          subst (λ (ms : List Met). IsPiecing ones c.args.self.now.pieces.items c.args.self.now.runs.items c.take_met.new.self ms) (sym (mets_next notes met i note (omega arith) at))
-          (c.in_ok-take_met.ensures ones c.args.self.now.pieces.items c.args.self.now.runs.items (mets_of notes (take i met)) (cond note.full (Some note.block) None) (number.number ones are)
+          subst (λ (ms : List Met). IsPiecing ones c.args.self.now.pieces.items c.args.self.now.runs c.take_met.new.self ms) (sym (mets_next notes met i note (omega arith) at))
+          (c.in_ok-take_met.ensures ones c.args.self.now.pieces.items c.args.self.now.runs (mets_of notes (take i met)) (cond note.full (Some note.block) None) (number.number ones are)
           (some_met note c.number_of-number.result number.whole (c.requires.sized.some k note at)) (c.loop-k.invariant.piecing ones are));
     }
 
@@ -51,9 +51,9 @@ returns c =
     let old = c.args.self.now in
     let met = c.args.met.now in
     let notes = c.args.notes.now in
-    let has : (ones : List ℕ) → AreNumbers ones c.args.numbers.now → HasPieces ones old.pieces.items old.runs.items c.end_own.new.self (mets_of notes met) = λ ones are.
-    let is = subst (λ (ks : List ℕ). IsPiecing ones old.pieces.items old.runs.items c.loop-k.self (mets_of notes ks)) (take_all c.loop-k.k-index met (omega arith)) (c.loop-k.invariant.piecing ones are) in
-    has_pieces ones old.pieces.items old.runs.items c.loop-k.self c.end_own.new.self (mets_of notes met) is (c.in_ok-end_own.ensures.ends (old.runs.items ++ is.given_runs) is.mappings is.joining is.first) in
+    let has : (ones : List ℕ) → AreNumbers ones c.args.numbers.now → HasPieces ones old.pieces.items old.runs c.end_own.new.self (mets_of notes met) = λ ones are.
+    let is = subst (λ (ks : List ℕ). IsPiecing ones old.pieces.items old.runs c.loop-k.self (mets_of notes ks)) (take_all c.loop-k.k-index met (omega arith)) (c.loop-k.invariant.piecing ones are) in
+    has_pieces ones old.pieces.items old.runs c.loop-k.self c.end_own.new.self (mets_of notes met) is (c.in_ok-end_own.ensures.ends (old.runs ++ is.given_runs) is.mappings is.joining is.first) in
     record {
       idle = c.in_ok-end_own.ensures.idle;
       has = has;

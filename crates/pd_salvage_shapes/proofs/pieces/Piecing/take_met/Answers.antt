@@ -6,7 +6,7 @@ use Rattle.pd_salvage_shapes.proofs.pieces.Piecing.take_met.Goals as goal
 
 pub returns-then-number-eq0 : goal.returns-then-number-eq0
 returns-then-number-eq0 c = λ ones pieces runs done leaf number some is.
-    let takes = rw c.as_slice.ensures.value at c.in_ok-take_runs.ensures.takes in
+    let takes = c.in_ok-take_runs.ensures.takes in
     takes_own ones pieces runs c.args.self.now c.take_runs.new.self done is leaf (noted c.args.note.now) (above_none (number_of_leaf ones leaf) (rw c.if-number-eq0.true at number))
     c.in_ok-take_runs.ensures.same.0 c.in_ok-take_runs.ensures.same.1 (takes _ is.mappings is.joining)
 

@@ -1,8 +1,8 @@
 use Rattle.std.proofs.Common.{◌≡◌, List, IfSome}
 use Rattle.pd_image.specs.Device.{OnlyReads}
+use Rattle.pd_salvage.specs.Way.{way_number}
 use Rattle.pd_salvage_shapes.specs.Mets.{Met}
 use Rattle.pd_salvage_shapes.specs.Visiting.{Grow, IsReady, MeetsAll}
-use Rattle.pd_salvage_shapes.specs.Way.{way_number}
 use Rattle.pd_salvage_shapes.proofs.visiting.Visiting.go_on.Given as goal
 
 -- what was met and what is left are what was so at the start
@@ -17,4 +17,4 @@ invariant-steps g l = record {
 }
 
 abbrev pub decreases-steps : goal.decreases-steps
-decreases-steps g l = way_number l.self.way
+decreases-steps g l = way_number 8 l.self.way

@@ -2,7 +2,7 @@ use Rattle.std.proofs.Common.{refl}
 use Rattle.std.proofs.lemmas.Bool.{false≢true}
 use Rattle.std.proofs.lemmas.Option.{IfSome_then}
 use Rattle.pd_salvage_shapes.proofs.NoteLemmas.{part_inside}
-use Rattle.pd_salvage_shapes.proofs.VisitLemmas.{pushed_popped}
+use Rattle.pd_salvage.proofs.ToldLemmas.{pushed_popped}
 use Rattle.pd_salvage_shapes.proofs.visiting.Visiting.read_part.Goals as goal
 
 pub returns-in-Ok-made-clause-reads : goal.returns-in-Ok-made-clause-reads
@@ -10,13 +10,13 @@ returns-in-Ok-made-clause-reads g c =
     let old = c.args.self.now in
     let held = (g.D.Device.state c.args.dev.now).held in
     let pushes = c.in-Ok.ensures.pushes in
-    let same = pushed_popped held c.args.b c.args.range old.way c.push.new.self c.pop.new.self pushes c.pop.ensures in
+    let same = pushed_popped 8 held c.args.b c.args.range old.way c.push.new.self c.pop.new.self pushes c.pop.ensures in
     let notes = c.in-Ok-made.ensures.notes in
     let sound = c.in-Ok-made.ensures.sound in
     rw c.part_of.ensures (
     record {
       same = refl;
-      way = record { depth = same.0; left = same.1; number = same.2 };
+      way = same;
       sound = record {
         lawful = sound.lawful;
         joined = sound.joined;
