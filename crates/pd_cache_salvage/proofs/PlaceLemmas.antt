@@ -1,5 +1,5 @@
 -- What is found of the blocks of an array, asked by ascending key.
-use Rattle.std.proofs.Common.{◌≡◌, ℕ, ◌<◌, List, Some, None, ◌++◌, refl}
+use Rattle.std.proofs.Common.{◌≡◌, ℕ, ◌<◌, List, Option, Some, None, ◌++◌, ◌∙◌, refl, arith}
 use Rattle.pd_value.specs.declared.thin.Root.{Root}
 use Rattle.pd_tree.specs.Items.{root_of}
 use Rattle.pd_tree.specs.Next.{IsNext}
@@ -27,6 +27,12 @@ module _ (key next : ℕ) (root : Root) (self : Places) (read : self.ahead ≡ S
     same = same;
     finds = λ image. rw (read, none, same) (finds_later key next root (saved_left 8 root_of image self.entries) less);
   }
+
+-- what is known is found
+pub found_known : (key : ℕ) (known : Option Root) (image : List (List ℕ)) (start : List (ℕ × Root)) (old new : Places) → FindsSame key start (places_left image old) → KnowsHere key known old new
+    → IsFound key known start (places_left image new)
+found_known key known image start old new same knows =
+    rw knows.same (record { here = (knows.found image).here ∙ same key (omega arith); later = λ later after. same later (omega arith) })
 
 -- nothing is found where nothing is left to read
 pub found_end : (key : ℕ) (image : List (List ℕ)) (start : List (ℕ × Root)) (old known : Places) (entries : SavedCursor Root)

@@ -3,7 +3,7 @@ use Rattle.pd_array.specs.Word.{size_of}
 use Rattle.pd_kinds.specs.Array.{array_bad}
 use Rattle.pd_kinds.specs.RuleSet.{has_rule}
 use Rattle.pd_laid.specs.SavedCache.{is_array_damaged}
-use Rattle.pd_salvage.proofs.TrailLemmas.{sound_is}
+use Rattle.pd_salvage.proofs.WayLemmas.{sound_is}
 use Rattle.pd_cache_salvage.proofs.ArrayLemmas.{count_lost, count_sound}
 use Rattle.pd_cache_salvage.proofs.sound.sound_words.Goals as goal
 

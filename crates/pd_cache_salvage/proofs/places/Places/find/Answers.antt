@@ -1,12 +1,18 @@
 use Rattle.std.proofs.Common.{ℕ, None, IfSome, subst}
 use Rattle.pd_value.specs.declared.thin.Root.{Root}
+use Rattle.std.proofs.lemmas.Option.{IfSome_then}
 use Rattle.pd_tree.proofs.NextLemmas.{if_both}
 use Rattle.pd_tree.specs.Items.{root_of}
 use Rattle.pd_tree.specs.Next.{IsNext}
 use Rattle.pd_salvage.specs.Cursor.{saved_left}
 use Rattle.pd_cache_salvage.specs.Places.{places_left}
-use Rattle.pd_cache_salvage.proofs.PlaceLemmas.{found_end}
+use Rattle.pd_cache_salvage.proofs.PlaceLemmas.{found_end, found_known}
 use Rattle.pd_cache_salvage.proofs.places.Places.find.Goals as goal
+
+pub returns-in-Past-clause-found : goal.returns-in-Past-clause-found
+returns-in-Past-clause-found g c =
+    IfSome_then (g.D.Device.state c.args.dev.now).held c.loop-root.invariant.left (λ image same.
+    found_known c.args.key None image (places_left image c.args.self.now) c.loop-root.self c.known.new.self same c.in-Past.ensures)
 
 pub returns-in-None-clause-found : goal.returns-in-None-clause-found
 returns-in-None-clause-found g c =
