@@ -96,26 +96,6 @@ laid_then r runs least low can below =
 pub first_number : (r : Run) (runs : List Run) → length (mappings_of_runs (r ∷ runs)) ≡ r.length + length (mappings_of_runs runs)
 first_number r runs = omega (arith, length-append (mappings_of r) (mappings_of_runs runs), mappings_length r.virtual_block r.data_block r.time r.length)
 
--- the runs from a place on: the one there, and those after it
-pub left_at : (runs : List Value) (i : ℕ) (d : Value) → i < length runs → runs_of (drop i runs) ≡ run_of (get_or runs i d) ∷ runs_of (drop (i + 1) runs)
-left_at runs i d within = ap runs_of (drop_more runs i d within)
-
--- those up to a place, and the one there
-pub taken_at : (runs : List Value) (i : ℕ) (d : Value) → i < length runs
-    → items_of_runs (runs_of (take (i + 1) runs)) ≡ items_of_runs (runs_of (take i runs)) ++ mapping_items (mappings_of (run_of (get_or runs i d)))
-taken_at runs i d within =
-    let r = run_of (get_or runs i d) in
-    let before = runs_of (take i runs) in
-    ap (λ (rs : List Value). items_of_runs (runs_of rs)) (take_more runs i d within)
-    ∙ (ap items_of_runs (map-append run_of (take i runs) (get_or runs i d ∷ []))
-    ∙ (ap mapping_items (flat_map-append mappings_of before (r ∷ []))
-    ∙ (items-append (mappings_of_runs before) (mappings_of r ++ []) ∙ ap (λ (ms : List Mapping). mapping_items (mappings_of_runs before) ++ mapping_items ms) (append-nil (mappings_of r)))))
-
-pub can_at : (runs : List Value) (i low : ℕ) (d : Value) → i < length runs → CanBeLaid (runs_of (drop i runs)) low
-    → CanBeLaid (run_of (get_or runs i d) ∷ runs_of (drop (i + 1) runs)) low
-can_at runs i low d within can = subst (λ (rs : List Run). CanBeLaid rs low) (left_at runs i d within) can
-
-pub number_at : (runs : List Value) (i : ℕ) (d : Value) → i < length runs
-    → length (mappings_of_runs (runs_of (drop i runs))) ≡ (get_or runs i d).length + length (mappings_of_runs (runs_of (drop (i + 1) runs)))
-number_at runs i d within =
-    ap (λ (rs : List Run). length (mappings_of_runs rs)) (left_at runs i d within) ∙ first_number (run_of (get_or runs i d)) (runs_of (drop (i + 1) runs))
+-- the items of a run and of the runs after it
+pub first_items : (r : Run) (runs : List Run) → items_of_runs (r ∷ runs) ≡ mapping_items (mappings_of r) ++ items_of_runs runs
+first_items r runs = items-append (mappings_of r) (mappings_of_runs runs)

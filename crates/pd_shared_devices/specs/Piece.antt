@@ -8,16 +8,16 @@ use Rattle.pd_laid.specs.LaidThin.{mapping_items}
 use Rattle.pd_laid.specs.Tree.{blocks_from, heads}
 use Rattle.pd_shapes.specs.SharedText.{HaveMappings, mappings_of_runs}
 use Rattle.pd_build.specs.Leaves.{LeavesLeft, items_to_come, leaves_to_come}
-use Rattle.pd_devices.specs.Lines.{run_of}
-use Rattle.pd_devices.specs.declared.runs.Run.{Run as Value}
+use Rattle.pd_thin_meaning.specs.declared.joined.Run.{Run as Value}
+use Rattle.pd_thin_meaning.specs.Joined.{spelled}
 use Rattle.pd_shared_devices.specs.declared.piece.Held.{Held}
 
 -- runs, and those that are held, as the definitions have them
 abbrev pub runs_of : List Value → List Run
-runs_of runs = map run_of runs
+runs_of runs = map spelled runs
 
 abbrev pub held_runs : Held → List Run
-held_runs held = runs_of held.runs.items
+held_runs held = runs_of held.runs
 
 -- the items of runs
 abbrev pub items_of_runs : List Run → List Entry

@@ -23,13 +23,16 @@ use pd_build::{BuildFault, LeafBuilder, UpperBuilder};
 use pd_devices::Run;
 use pd_draft::Draft;
 use pd_image::Device;
+use pd_runs::PackedRuns;
+use pd_thin_meaning::Run as PackedRun;
 use pd_value::BlockTime;
 use std::alloc::{AllocError, Global};
 
 /// The runs of a leaf or of a piece that isn't over.
 #[derive(Drop)]
 pub struct Held {
-    pub(crate) runs: Vec<Run>,
+    alloc: Global,
+    pub(crate) runs: PackedRuns,
     /// How many mappings they are.
     pub(crate) number: u64,
 }
@@ -40,7 +43,8 @@ impl Held {
         ensures { HasHeld [] result }
     {
         Held {
-            runs: Vec::new(alloc),
+            alloc,
+            runs: PackedRuns::new(alloc),
             number: 0,
         }
     }
@@ -50,7 +54,12 @@ impl Held {
         requires few { self.old.number + run.length < 2 ^ 64 }
         ensures held { (runs : List Value) → HasHeld runs self.old → OnOk result (HasHeld (runs ++ run_of run ∷ []) self.new) }
     {
-        self.runs.push(run)?;
+        self.runs.push(PackedRun {
+            virt: run.virtual_block,
+            target: run.data_block,
+            length: run.length,
+            time: run.time,
+        })?;
         self.number += run.length;
         Ok(())
     }
@@ -61,8 +70,9 @@ impl Held {
         requires held { HasHeld (held_runs self.now) self.now }
         ensures { result ≡ least_of (held_runs self.now) }
     {
-        match self.runs.first() {
-            Some(run) => run.virtual_block,
+        let mut place = self.runs.first();
+        match self.runs.next(&mut place) {
+            Some(run) => run.virt,
             None => 0,
         }
     }
@@ -71,7 +81,7 @@ impl Held {
     pub(crate) fn clear(&mut self)
         ensures { HasHeld [] self.new }
     {
-        self.runs.clear();
+        self.runs = PackedRuns::new(self.alloc);
         self.number = 0;
     }
 }
@@ -109,7 +119,7 @@ fn put_runs<D: Device>(
     builder: &mut LeafBuilder<BlockTime>,
     row: &mut UpperBuilder,
     draft: &mut Draft<'_, D>,
-    runs: &[Run],
+    runs: &PackedRuns,
 ) -> Result<(), BuildFault>
     requires can { CanBeLaid (runs_of runs.now) builder.old.low }
     requires more { items_to_come builder.old ≡ length (mappings_of_runs (runs_of runs.now)) }
@@ -121,8 +131,9 @@ fn put_runs<D: Device>(
     ensures closed { StaysClosed (draft_state draft.old).device (draft_state draft.new).device }
     ensures faults { CountsBuildFault result (draft_state draft.old).device.faults (draft_state draft.new).device.faults }
 {
-    for run in runs {
-        put_run(builder, row, draft, *run)?;
+    let mut place = runs.first();
+    while let Some(run) = runs.next(&mut place) {
+        put_run(builder, row, draft, run)?;
     }
     Ok(())
 }
@@ -132,28 +143,28 @@ fn put_run<D: Device>(
     builder: &mut LeafBuilder<BlockTime>,
     row: &mut UpperBuilder,
     draft: &mut Draft<'_, D>,
-    run: Run,
+    run: PackedRun,
 ) -> Result<(), BuildFault>
-    requires above { builder.old.low ≤ run.virtual_block }
-    requires ends { run.virtual_block + run.length ≤ 2 ^ 64 }
-    requires within { run.data_block + run.length ≤ 2 ^ 40 }
+    requires above { builder.old.low ≤ run.virt }
+    requires ends { run.virt + run.length ≤ 2 ^ 64 }
+    requires within { run.target + run.length ≤ 2 ^ 40 }
     requires time { run.time < 2 ^ 24 }
     requires more { run.length ≤ items_to_come builder.old }
     requires writable { IsWritable (draft_state draft.old).device }
     requires room { draft.old.next + length builder.old.sizes ≤ (draft_state draft.old).device.blocks }
     requires closed { IsClosed (draft_state draft.old).device }
     ensures same_reference { draft.new.dev.ghost_name ≡ draft.old.dev.ghost_name }
-    ensures takes { OnOk result (TakesAll 8 (mapping_items (mappings_from run.virtual_block run.data_block run.time run.length)) builder.old builder.new row.old row.new (draft_state draft.old) (draft_state draft.new)) }
-    ensures raised { OnOk result (builder.new.low ≤ run.virtual_block + run.length) }
+    ensures takes { OnOk result (TakesAll 8 (mapping_items (mappings_from run.virt run.target run.time run.length)) builder.old builder.new row.old row.new (draft_state draft.old) (draft_state draft.new)) }
+    ensures raised { OnOk result (builder.new.low ≤ run.virt + run.length) }
     ensures closed { StaysClosed (draft_state draft.old).device (draft_state draft.new).device }
     ensures faults { CountsBuildFault result (draft_state draft.old).device.faults (draft_state draft.new).device.faults }
 {
     for i in 0..run.length {
         let mapping = BlockTime {
-            block: run.data_block + i,
+            block: run.target + i,
             time: run.time,
         };
-        put_mapping(builder, row, draft, run.virtual_block + i, mapping)?;
+        put_mapping(builder, row, draft, run.virt + i, mapping)?;
     }
     Ok(())
 }

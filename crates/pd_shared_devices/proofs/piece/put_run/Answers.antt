@@ -21,7 +21,7 @@ pub put_mapping-requires-clause-more : goal.put_mapping-requires-clause-more
 put_mapping-requires-clause-more g c =
     let run = c.args.run in
     let i = c.loop-i.i in
-    omega (arith, c.loop-i.invariant.takes.items, length-items (mappings_from run.virtual_block run.data_block run.time i), length-mappings run.virtual_block run.data_block run.time i)
+    omega (arith, c.loop-i.invariant.takes.items, length-items (mappings_from run.virt run.target run.time i), length-mappings run.virt run.target run.time i)
 
 pub put_mapping-requires-clause-room : goal.put_mapping-requires-clause-room
 put_mapping-requires-clause-room g c =
@@ -37,7 +37,7 @@ loop-i-preserved g c =
     record {
       same_reference = search rules;
       takes = subst (λ (taken : List Entry). TakesAll 8 taken c.args.builder.now c.put_mapping.new.builder c.args.row.now c.put_mapping.new.row start now)
-          (sym (items_more run.virtual_block run.data_block run.time i))
+          (sym (items_more run.virt run.target run.time i))
           (takes_then c.loop-i.invariant.takes c.in_ok-put_mapping.ensures.takes);
       low = omega (arith, c.in_ok-put_mapping.ensures.raised);
     }

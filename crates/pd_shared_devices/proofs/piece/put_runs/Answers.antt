@@ -1,47 +1,45 @@
-use Rattle.std.proofs.Common.{List, get_or, subst, sym, arith, rules}
+use Rattle.std.proofs.Common.{◌≡◌, List, [], ◌++◌, append_assoc, ap, sym, ◌∙◌, refl, arith, rules}
+use Rattle.std.proofs.lemmas.List.{append-nil}
 use Rattle.pd_kinds.specs.Node.{Entry, leaf_block}
 use Rattle.pd_draft.specs.Placed.{DraftState}
 use Rattle.pd_laid.specs.LaidThin.{mapping_items}
 use Rattle.pd_laid.proofs.LaidLemmas.{length-blocks_from}
 use Rattle.pd_spells.specs.ThinText.{mappings_from}
-use Rattle.pd_devices.specs.Lines.{run_of}
-use Rattle.pd_devices.specs.declared.runs.Run.{Run as Value}
 use Rattle.pd_devices.proofs.RunLemmas.{length-items, length-mappings}
-use Rattle.pd_shared_devices.specs.Piece.{TakesAll}
-use Rattle.pd_shared_devices.proofs.PieceLemmas.{takes_none, takes_then, laid_then, taken_at, can_at, number_at}
+use Rattle.pd_runs.specs.Places.{runs_from}
+use Rattle.pd_thin_meaning.specs.declared.joined.Run.{Run as Value}
+use Rattle.pd_thin_meaning.specs.Joined.{spelled}
+use Rattle.pd_shared_devices.specs.Piece.{items_of_runs, runs_of}
+use Rattle.pd_shared_devices.proofs.PieceLemmas.{takes_none, takes_then, laid_then, first_items, first_number}
 use Rattle.pd_shared_devices.proofs.piece.put_runs.Goals as goal
-
-abbrev nothing : Value
-nothing = record { virtual_block = 0; data_block = 0; length = 0; time = 0 }
 
 pub loop-run-init : goal.loop-run-init
 unfolding mapping_items
 loop-run-init g c = record {
   same_reference = search rules;
+  taken = [];
+  all = rw c.first-place.ensures refl;
   takes = takes_none 8 c.args.builder.now c.args.row.now (record { device = g.D.Device.state c.args.draft.now.dev.now; place = c.args.draft.now.next }) c.requires.closed;
-  can = c.requires.can;
-  more = c.requires.more;
+  can = rw c.first-place.ensures c.requires.can;
+  more = rw c.first-place.ensures c.requires.more;
 }
 
 pub put_run-requires-clause-above : goal.put_run-requires-clause-above
-put_run-requires-clause-above g c =
-    (laid_then _ _ c.loop-run.builder.low 0 (can_at c.args.runs.now c.loop-run.run-index c.loop-run.builder.low nothing (omega arith) c.loop-run.invariant.can) (omega arith)).0.above
+put_run-requires-clause-above g c = (laid_then _ _ c.loop-run.builder.low 0 (rw c.in-Some.ensures at c.loop-run.invariant.can) (omega arith)).0.above
 
 pub put_run-requires-clause-ends : goal.put_run-requires-clause-ends
-put_run-requires-clause-ends g c =
-    (laid_then _ _ c.loop-run.builder.low 0 (can_at c.args.runs.now c.loop-run.run-index c.loop-run.builder.low nothing (omega arith) c.loop-run.invariant.can) (omega arith)).0.fits
+put_run-requires-clause-ends g c = (laid_then _ _ c.loop-run.builder.low 0 (rw c.in-Some.ensures at c.loop-run.invariant.can) (omega arith)).0.fits
 
 pub put_run-requires-clause-within : goal.put_run-requires-clause-within
-put_run-requires-clause-within g c =
-    (laid_then _ _ c.loop-run.builder.low 0 (can_at c.args.runs.now c.loop-run.run-index c.loop-run.builder.low nothing (omega arith) c.loop-run.invariant.can) (omega arith)).0.within
+put_run-requires-clause-within g c = (laid_then _ _ c.loop-run.builder.low 0 (rw c.in-Some.ensures at c.loop-run.invariant.can) (omega arith)).0.within
 
 pub put_run-requires-clause-time : goal.put_run-requires-clause-time
-put_run-requires-clause-time g c =
-    (laid_then _ _ c.loop-run.builder.low 0 (can_at c.args.runs.now c.loop-run.run-index c.loop-run.builder.low nothing (omega arith) c.loop-run.invariant.can) (omega arith)).0.time
+put_run-requires-clause-time g c = (laid_then _ _ c.loop-run.builder.low 0 (rw c.in-Some.ensures at c.loop-run.invariant.can) (omega arith)).0.time
 
 pub put_run-requires-clause-more : goal.put_run-requires-clause-more
 put_run-requires-clause-more g c =
-    omega (arith, c.loop-run.invariant.more, number_at c.args.runs.now c.loop-run.run-index nothing (omega arith))
+    let more = rw c.in-Some.ensures at c.loop-run.invariant.more in
+    omega (arith, more, first_number (spelled c.in-Some.run') (runs_of (runs_from c.args.runs.now c.next.new.place)))
 
 pub put_run-requires-clause-room : goal.put_run-requires-clause-room
 put_run-requires-clause-room g c =
@@ -50,26 +48,36 @@ put_run-requires-clause-room g c =
 
 pub loop-run-preserved : goal.loop-run-preserved
 loop-run-preserved g c =
-    let runs = c.args.runs.now in
-    let i = c.loop-run.run-index in
-    let start : DraftState = record { device = g.D.Device.state c.args.draft.now.dev.now; place = c.args.draft.now.next } in
-    let now : DraftState = record { device = g.D.Device.state c.put_run.new.draft.dev.now; place = c.put_run.new.draft.next } in
+    let r = spelled c.in-Some.run' in
+    let rest = runs_of (runs_from c.args.runs.now c.next.new.place) in
+    let before = c.loop-run.invariant in
     let did = c.in_ok-put_run.ensures in
-    let can = can_at runs i c.loop-run.builder.low nothing (omega arith) c.loop-run.invariant.can in
-    let number = number_at runs i nothing (omega arith) in
-    let r = run_of (get_or runs i nothing) in
+    let items = mapping_items (mappings_from r.virtual_block r.data_block r.time r.length) in
+    let can = rw c.in-Some.ensures at before.can in
+    let more = rw c.in-Some.ensures at before.more in
     record {
       same_reference = search rules;
-      takes = subst (λ (taken : List Entry). TakesAll 8 taken c.args.builder.now c.put_run.new.builder c.args.row.now c.put_run.new.row start now)
-          (sym (taken_at runs i nothing (omega arith)))
-          (takes_then c.loop-run.invariant.takes did.takes);
-      can = (laid_then _ _ c.loop-run.builder.low c.put_run.new.builder.low can did.raised).1;
+      taken = before.taken ++ items;
+      all =
+          before.all
+          ∙ (ap (λ (left : List Value). before.taken ++ items_of_runs (runs_of left)) c.in-Some.ensures
+          ∙ (ap (λ (left : List Entry). before.taken ++ left) (first_items r rest) ∙ sym (append_assoc before.taken items (items_of_runs rest))));
+      takes = takes_then before.takes did.takes;
+      can = (laid_then r rest c.loop-run.builder.low c.put_run.new.builder.low can did.raised).1;
       more = omega (
         arith,
         did.takes.items,
-        c.loop-run.invariant.more,
-        number,
+        more,
+        first_number r rest,
         length-items (mappings_from r.virtual_block r.data_block r.time r.length),
         length-mappings r.virtual_block r.data_block r.time r.length,
       );
     }
+
+pub returns-clause-takes : goal.returns-clause-takes
+unfolding mapping_items
+returns-clause-takes g c =
+    let before = c.loop-run.invariant in
+    let none = c.in_default.ensures.0 in
+    let whole : items_of_runs (runs_of c.args.runs.now) ≡ before.taken ++ items_of_runs (runs_of []) = before.all ∙ ap (λ (left : List Value). before.taken ++ items_of_runs (runs_of left)) none in
+    rw (whole, append-nil before.taken) before.takes

@@ -9,7 +9,7 @@ pub returns-clause-wrote : goal.returns-clause-wrote
 returns-clause-wrote g c =
     let runs = held_runs c.args.held.now in
     let number : length (items_of_runs runs) ≡ c.args.held.now.number = length-items (mappings_of_runs runs) ∙ sym c.requires.number in
-    let takes = rw c.deref.ensures.value at c.in_ok-put_runs.ensures.takes in
+    let takes = c.in_ok-put_runs.ensures.takes in
     let none = c.is_done-done.ensures.sizes (omega (arith, takes.items, c.in-Ok.ensures.items, number)) in
     (took_all takes none (c.in-Ok.ensures.leaves (omega (arith, c.requires.some)) (items_of_runs runs) number)).0
 
@@ -17,6 +17,6 @@ pub returns-clause-row_is : goal.returns-clause-row_is
 returns-clause-row_is g c =
     let runs = held_runs c.args.held.now in
     let number : length (items_of_runs runs) ≡ c.args.held.now.number = length-items (mappings_of_runs runs) ∙ sym c.requires.number in
-    let takes = rw c.deref.ensures.value at c.in_ok-put_runs.ensures.takes in
+    let takes = c.in_ok-put_runs.ensures.takes in
     let none = c.is_done-done.ensures.sizes (omega (arith, takes.items, c.in-Ok.ensures.items, number)) in
     (took_all takes none (c.in-Ok.ensures.leaves (omega (arith, c.requires.some)) (items_of_runs runs) number)).1

@@ -2,16 +2,20 @@ use Rattle.std.proofs.Common.{List, ◌∷◌, [], ◌++◌, ap, ◌∙◌, arit
 use Rattle.std.proofs.lemmas.List.{map-append}
 use Rattle.pd_spells.specs.ThinText.{Run}
 use Rattle.pd_devices.specs.Lines.{run_of}
+use Rattle.pd_thin_meaning.specs.declared.joined.Run.{Run as Packed}
+use Rattle.pd_thin_meaning.specs.Joined.{spelled}
 use Rattle.pd_shared_devices.specs.Piece.{runs_of}
 use Rattle.pd_shared_devices.proofs.RiseLemmas.{number_behind}
 use Rattle.pd_shared_devices.proofs.piece.Held.add.Goals as goal
 
 pub returns : goal.returns
-returns c = record {
-  held = λ runs h. record {
-    runs_are =
-        ap runs_of c.in_ok-push.ensures.items
-        ∙ (map-append run_of c.args.self.now.runs.items (c.args.run ∷ []) ∙ ap (λ (rs : List Run). rs ++ run_of c.args.run ∷ []) h.runs_are);
-    number = omega (arith, h.number, number_behind runs (run_of c.args.run));
-  };
-}
+returns c =
+    let run : Packed = record { virt = c.args.run.virtual_block; target = c.args.run.data_block; length = c.args.run.length; time = c.args.run.time } in
+    record {
+      held = λ runs h. record {
+        runs_are =
+            ap runs_of c.in_ok-push.ensures.pushed
+            ∙ (map-append spelled c.args.self.now.runs (run ∷ []) ∙ ap (λ (rs : List Run). rs ++ run_of c.args.run ∷ []) h.runs_are);
+        number = omega (arith, h.number, number_behind runs (run_of c.args.run));
+      };
+    }
