@@ -1,8 +1,8 @@
 -- What a saved pool needs, by its devices and runs.
-use Rattle.std.proofs.Common.{◌≡◌, ℕ, zero, suc, ◌+◌, ◌-◌, ◌^◌, ◌<◌, ◌≤◌, min, get_or, List, [], ◌∷◌, ◌++◌, length, map, take, drop, refl, ap, sym, subst, ◌∙◌, arith, length-drop}
+use Rattle.std.proofs.Common.{◌≡◌, ℕ, zero, suc, ◌+◌, ◌-◌, ◌^◌, ◌<◌, ◌≤◌, min, List, [], ◌∷◌, ◌++◌, length, map, take, drop, refl, append_assoc, ap, sym, subst, ◌∙◌, arith, length-drop}
 use Rattle.std.specs.List.{AllByRecursion, flat_map, range_with_len}
 use Rattle.std.proofs.lemmas.Grind.{flat_map-append}
-use Rattle.std.proofs.lemmas.List.{append-nil, map-append, nil_from_length, take-append-drop, take_more}
+use Rattle.std.proofs.lemmas.List.{append-nil, map-append, nil_from_length, take-append-drop}
 use Rattle.std.proofs.lemmas.List.Sums.{sum_by-cons}
 use Rattle.pd_kinds.specs.Meaning.{Mapping, ThinDevice}
 use Rattle.pd_thin_meaning.specs.declared.joined.Run.{Run as SavedRun}
@@ -97,21 +97,27 @@ unfolding pool_of thin_need
 need_is saved sound room =
     rw (sym (parts_mapped saved.devices saved.runs), sym (parts_data saved.devices saved.runs sound.number)) refl
 
--- each run is in the pool
-pub within_at : (blocks : ℕ) (runs : List SavedRun) (i : ℕ) (d : SavedRun) → AllByRecursion (IsWithin blocks) runs → i < length runs
-    → (get_or runs i d).target + (get_or runs i d).length ≤ blocks
-within_at blocks [] i d all within = absurd (omega arith)
-within_at blocks (r ∷ runs) zero d all within = all.0
-within_at blocks (r ∷ runs) (suc i) d all within = within_at blocks runs i d all.1 (omega arith)
+-- of some blocks behind others all but those of the runs that are left were counted
+pub record CountsFirst (counts : Counted) (all : List ℕ) (left : List SavedRun) : Type 0 where
+  pub first : List ℕ
+  pub counted : HasCountedThrice counts first
+  pub rest : first ++ data_of_runs left ≡ all
 
 -- one run more
-pub data_more : (runs : List SavedRun) (i : ℕ) (d : SavedRun) → i < length runs
-    → data_of_runs (take (i + 1) runs) ≡ data_of_runs (take i runs) ++ range_with_len (get_or runs i d).target (get_or runs i d).length
-data_more runs i d within =
-    let r = get_or runs i d in
-    ap data_of_runs (take_more runs i d within)
-    ∙ (flat_map-append (λ (r : SavedRun). range_with_len r.target r.length) (take i runs) (r ∷ [])
-    ∙ ap (λ (blocks : List ℕ). data_of_runs (take i runs) ++ blocks) (append-nil (range_with_len r.target r.length)))
+pub counts_next : (old new : Counted) (all : List ℕ) (left later : List SavedRun) (r : SavedRun) (counts : CountsFirst old all left) → left ≡ r ∷ later
+    → HasCountedThrice new (counts.first ++ range_with_len r.target r.length) → CountsFirst new all later
+counts_next old new all left later r counts is more = record {
+  first = counts.first ++ range_with_len r.target r.length;
+  counted = more;
+  rest =
+      append_assoc counts.first (range_with_len r.target r.length) (data_of_runs later)
+      ∙ (ap (λ (runs : List SavedRun). counts.first ++ data_of_runs runs) (sym is) ∙ counts.rest);
+}
+
+-- all of them
+pub counts_all : (counted : Counted) (all : List ℕ) (left : List SavedRun) → CountsFirst counted all left → left ≡ [] → HasCountedThrice counted all
+counts_all counted all left counts none =
+    subst (HasCountedThrice counted) (sym (append-nil counts.first) ∙ (ap (λ (runs : List SavedRun). counts.first ++ data_of_runs runs) (sym none) ∙ counts.rest)) counts.counted
 
 -- where all data blocks were counted
 pub over_all : (counts : Counted) (data_blocks : List ℕ) (blocks : ℕ) → counts.size ≡ blocks → HasCountedThrice counts data_blocks → overflows_of counts counts.size ≡ overflows_in data_blocks blocks

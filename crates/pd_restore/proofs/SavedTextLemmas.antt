@@ -1,8 +1,8 @@
 -- The text of a saved pool: what it spells, and its lines from a place on.
-use Rattle.std.proofs.Common.{◌≡◌, Bool, inl, inr, ℕ, zero, suc, ◌+◌, ◌-◌, ◌<◌, ◌≤◌, true, false, ltb, List, [], ◌∷◌, ◌++◌, length, map, take, drop, drop-cons, add-one, get_or, refl, ap, ap₂, sym, subst, ◌∙◌, arith, lit≤}
+use Rattle.std.proofs.Common.{◌≡◌, Bool, inl, inr, ℕ, suc, ◌+◌, ◌<◌, ◌≤◌, true, false, ltb, List, [], ◌∷◌, ◌++◌, length, take, drop, drop-cons, add-one, get_or, refl, ap, ap₂, sym, subst, ◌∙◌, arith, lit≤}
 use Rattle.std.specs.List.{AllByRecursion, flat_map}
 use Rattle.std.proofs.lemmas.Bool.{cases_Bool, ltb-true, ltb-false}
-use Rattle.std.proofs.lemmas.List.{drop-drop, drop_all}
+use Rattle.std.proofs.lemmas.List.{drop_all}
 use Rattle.pd_kinds.specs.Meaning.{Mapping}
 use Rattle.pd_grammar.specs.Texts.{reading, whole}
 use Rattle.pd_grammar.proofs.GrammarLemmas.{read_if_lines}
@@ -76,49 +76,33 @@ saved_read saved sound =
     (pool_language.lines (saved_lines saved) (shape_of (pool_of saved)) (saved_means saved sound))
 
 -- all lines come at first
-pub all_left : (saved : SavedPool) → lines_at saved.devices saved.runs 0 0 0 ≡ flat_map lines_of_part (parts_of saved.devices saved.runs)
+pub all_left : (saved : SavedPool) (first runs : List SavedRun) → first ≡ [] → runs ≡ saved.runs → lines_at first saved.devices runs ≡ flat_map lines_of_part (parts_of saved.devices saved.runs)
 unfolding lines_at
-all_left saved = refl
+all_left saved first runs none all = rw (none, all) refl
 
 pub all_lines : (saved : SavedPool) (p : SavedHead) (made : SavedLines) → p ≡ saved.head → lines_left made ≡ flat_map lines_of_part (parts_of saved.devices saved.runs)
     → in_order (made_begun false p) (lines_to_end (lines_left made)) ≡ saved_lines saved
 all_lines saved p made head rest = ap₂ (λ (h : SavedHead) (ls : List Line). first_line ∷ pool_line (head_of_pool h) ∷ (ls ++ end_line ∷ [])) head rest
 
--- a run, and what comes after it
-pub run_first : (devices : List SavedDevice) (runs : List SavedRun) (device run left : ℕ) (r : SavedRun) → 0 < left → drop run runs ≡ r ∷ drop (run + 1) runs
-    → lines_at devices runs device run left ≡ map_line (spelled r) ∷ lines_at devices runs device (run + 1) (left - 1)
-unfolding lines_at
-run_first devices runs device run zero r some there = absurd (omega arith)
-run_first devices runs device run (suc left) r some there =
-    let next : run + suc left ≡ run + 1 + left = omega arith in
-    let less : suc left - 1 ≡ left = omega arith in
-    rw (there, next, less) refl
+-- a run, and what comes after it; and where no run is left, the devices come
+module _ (first next : List SavedRun) (devices : List SavedDevice) (runs same_runs : List SavedRun) (same : same_runs ≡ runs) where
+  pub run_first : (r : SavedRun) → first ≡ r ∷ next → lines_at first devices runs ≡ map_line (spelled r) ∷ lines_at next devices same_runs
+  unfolding lines_at
+  run_first r there = rw (there, same) refl
 
--- where no run is left, the devices come
-pub no_run : (devices : List SavedDevice) (runs : List SavedRun) (device run left : ℕ) → drop run runs ≡ []
-    → lines_at devices runs device run left ≡ lines_at devices runs device run 0
-unfolding lines_at
-no_run devices runs device run left none =
-    let zeros : run + 0 ≡ run = omega arith in
-    rw (sym (drop-drop left run runs), zeros, none) (both left)
-  where
-    both : (left : ℕ) → map map_line (map spelled (take left [])) ++ flat_map lines_of_part (parts_of (drop device devices) (drop left []))
-        ≡ flat_map lines_of_part (parts_of (drop device devices) [])
-    both zero = refl
-    both (suc left) = refl
+  pub no_run : first ≡ [] → next ≡ [] → lines_at first devices runs ≡ lines_at next devices same_runs
+  no_run none nothing = rw (none, nothing, same) refl
 
--- a device, and what comes after it
-pub device_first : (devices : List SavedDevice) (runs : List SavedRun) (device run : ℕ) (d : SavedDevice) → drop device devices ≡ d ∷ drop (device + 1) devices
-    → lines_at devices runs device run 0 ≡ device_line (details_of d.id d.details) ∷ lines_at devices runs (device + 1) run d.runs
-unfolding lines_at
-device_first devices runs device run d there =
-    let zeros : run + 0 ≡ run = omega arith in
-    rw (there, zeros, sym (drop-drop d.runs run runs)) refl
+-- a device, and what comes after it; and where no device is left, no line is
+module _ (first : List SavedRun) (devices : List SavedDevice) (runs : List SavedRun) (none : first ≡ []) where
+  pub device_first : (d : SavedDevice) (rest : List SavedDevice) (next others : List SavedRun) → devices ≡ d ∷ rest → next ≡ take d.runs runs → others ≡ drop d.runs runs
+      → lines_at first devices runs ≡ device_line (details_of d.id d.details) ∷ lines_at next rest others
+  unfolding lines_at
+  device_first d rest next others there taken left = rw (none, there, taken, left) refl
 
--- where no device is left, no line is
-pub no_device : (devices : List SavedDevice) (runs : List SavedRun) (device run : ℕ) → drop device devices ≡ [] → lines_at devices runs device run 0 ≡ []
-unfolding lines_at
-no_device devices runs device run none = rw none refl
+  pub no_device : devices ≡ [] → lines_at first devices runs ≡ []
+  unfolding lines_at
+  no_device ended = rw (none, ended) refl
 
 -- what is at a place comes first from there on
 pub drop_there : {A : Type 0} (xs : List A) (i : ℕ) (x : A) → true ≡ ltb i (length xs) → x ≡ get_or xs i x → drop i xs ≡ x ∷ drop (i + 1) xs

@@ -11,10 +11,12 @@ use Rattle.pd_salvage.specs.declared.saved_shape.SavedPiece.{SavedPiece}
 use Rattle.pd_salvage.specs.declared.saved_shape.SavedPiece.TheVariants.{Own, Shared}
 use Rattle.pd_salvage.specs.declared.saved_shape.ShapedDevice.{ShapedDevice}
 use Rattle.pd_salvage.specs.SavedShape.{HeldShape, runs_of_piece, runs_of_pieces}
+use Rattle.pd_runs.specs.Places.{runs_from}
 use Rattle.pd_restore.specs.declared.shape_lines.LeafLines.{LeafLines}
+use Rattle.pd_restore.specs.declared.span.RunSpan.{RunSpan}
 use Rattle.pd_restore.specs.declared.span.Span.{Span}
 use Rattle.pd_restore.specs.ShapeLines.{device_lines, leaf_lines, lines_of_rest, told_devices, told_leaves, told_pieces, told_runs}
-use Rattle.pd_restore.specs.Spans.{behind, in_span}
+use Rattle.pd_restore.specs.Spans.{behind, behind_runs, in_runs, in_span}
 
 -- the next element of a row, and what stands behind it
 module _ {T : Type 0} where
@@ -25,6 +27,14 @@ module _ {T : Type 0} where
   pub row_behind : (at left : ℕ) (items : List T) (x : T) → 0 < left → drop at items ≡ x ∷ drop (at + 1) items → drop (left - 1) (drop (at + 1) items) ≡ drop left (drop at items)
   row_behind at zero items x some there = absurd (omega arith)
   row_behind at (suc left) items x some there = let less : suc left - 1 ≡ left = omega arith in rw (there, less) refl
+
+  pub next_first : (left : ℕ) (items rest : List T) (x : T) → 0 < left → items ≡ x ∷ rest → take left items ≡ x ∷ take (left - 1) rest
+  next_first zero items rest x some there = absurd (omega arith)
+  next_first (suc left) items rest x some there = let less : suc left - 1 ≡ left = omega arith in rw (there, less) refl
+
+  pub next_behind : (left : ℕ) (items rest : List T) (x : T) → 0 < left → items ≡ x ∷ rest → drop (left - 1) rest ≡ drop left items
+  next_behind zero items rest x some there = absurd (omega arith)
+  next_behind (suc left) items rest x some there = let less : suc left - 1 ≡ left = omega arith in rw (there, less) refl
 
   -- where none is left
   pub row_none : (left : ℕ) (items : List T) → items ≡ [] → take left items ≡ []
@@ -57,20 +67,45 @@ module _ {T : Type 0} where
   unfolding behind
   begun_behind s t items none same = rw (none, same) refl
 
+-- the same of runs
+pub none_in_runs : (s : RunSpan) (runs : List Run) → s.left ≡ 0 → in_runs s runs ≡ []
+unfolding in_runs
+none_in_runs s runs none = rw none refl
+
+pub row_taken : (s : RunSpan) (runs : List Run) → in_runs s runs ≡ take s.left (runs_from runs s.at)
+unfolding in_runs
+row_taken s runs = refl
+
+pub row_left : (s : RunSpan) (runs : List Run) → behind_runs s runs ≡ drop s.left (runs_from runs s.at)
+unfolding behind_runs
+row_left s runs = refl
+
+pub over_behind : (s : RunSpan) (runs : List Run) → s.left ≡ 0 → behind_runs s runs ≡ runs_from runs s.at
+unfolding behind_runs
+over_behind s runs none = rw none refl
+
+pub begun_in_runs : (s t : RunSpan) (runs : List Run) → s.left ≡ 0 → t.at ≡ s.at → in_runs t runs ≡ take t.left (behind_runs s runs)
+unfolding in_runs behind_runs
+begun_in_runs s t runs none same = rw (none, same) refl
+
+pub begun_behind_runs : (s t : RunSpan) (runs : List Run) → s.left ≡ 0 → t.at ≡ s.at → behind_runs t runs ≡ drop t.left (behind_runs s runs)
+unfolding behind_runs
+begun_behind_runs s t runs none same = rw (none, same) refl
+
 -- the leaves: a run of the last one; the next leaf; none
 module _ (old new : LeafLines) (h : HeldShape) where
-  pub leaf_run : (r : Run) → in_span old.runs h.leaf_runs ≡ r ∷ in_span new.runs h.leaf_runs → behind new.runs h.leaf_runs ≡ behind old.runs h.leaf_runs → new.leaves ≡ old.leaves
+  pub leaf_run : (r : Run) → in_runs old.runs h.leaf_runs ≡ r ∷ in_runs new.runs h.leaf_runs → behind_runs new.runs h.leaf_runs ≡ behind_runs old.runs h.leaf_runs → new.leaves ≡ old.leaves
       → leaf_lines old h ≡ map_line (spelled r) ∷ leaf_lines new h
   unfolding leaf_lines
   leaf_run r there same leaves = rw (there, same, leaves) refl
 
-  pub leaf_next : (leaf : SavedLeaf) → in_span old.runs h.leaf_runs ≡ [] → in_span new.runs h.leaf_runs ≡ take leaf.runs (behind old.runs h.leaf_runs)
-      → behind new.runs h.leaf_runs ≡ drop leaf.runs (behind old.runs h.leaf_runs) → in_span old.leaves h.leaves ≡ leaf ∷ in_span new.leaves h.leaves → new.leaves.at ≡ old.leaves.at + 1
+  pub leaf_next : (leaf : SavedLeaf) → in_runs old.runs h.leaf_runs ≡ [] → in_runs new.runs h.leaf_runs ≡ take leaf.runs (behind_runs old.runs h.leaf_runs)
+      → behind_runs new.runs h.leaf_runs ≡ drop leaf.runs (behind_runs old.runs h.leaf_runs) → in_span old.leaves h.leaves ≡ leaf ∷ in_span new.leaves h.leaves → new.leaves.at ≡ old.leaves.at + 1
       → leaf_lines old h ≡ leaf_line (record { number = old.leaves.at; entries = leaf.entries }) ∷ leaf_lines new h
   unfolding leaf_lines
   leaf_next leaf none runs rest leaves next = rw (none, runs, rest, leaves, next) refl
 
-pub no_leaf : (made : LeafLines) (h : HeldShape) → in_span made.runs h.leaf_runs ≡ [] → in_span made.leaves h.leaves ≡ [] → leaf_lines made h ≡ []
+pub no_leaf : (made : LeafLines) (h : HeldShape) → in_runs made.runs h.leaf_runs ≡ [] → in_span made.leaves h.leaves ≡ [] → leaf_lines made h ≡ []
 unfolding leaf_lines
 no_leaf made h runs leaves = rw (runs, leaves) refl
 
@@ -115,12 +150,12 @@ module _ (first : List Run) (pieces : List SavedPiece) (devices : List ShapedDev
   none_first none over ended = rw (none, over, ended) refl
 
 -- all lines come at first
-pub all_told : (h : HeldShape) (leaves leaf_runs devices pieces runs : Span) → leaves.at ≡ 0 → leaves.left ≡ length h.leaves → leaf_runs.at ≡ 0 → leaf_runs.left ≡ 0
-    → devices.at ≡ 0 → devices.left ≡ length h.devices → pieces.at ≡ 0 → pieces.left ≡ 0 → runs.at ≡ 0 → runs.left ≡ 0
+pub all_told : (h : HeldShape) (leaves : Span) (leaf_runs : RunSpan) (devices pieces : Span) (runs : RunSpan) → leaves.at ≡ 0 → leaves.left ≡ length h.leaves
+    → in_runs leaf_runs h.leaf_runs ≡ [] → behind_runs leaf_runs h.leaf_runs ≡ h.leaf_runs → devices.at ≡ 0 → devices.left ≡ length h.devices → pieces.at ≡ 0 → pieces.left ≡ 0
+    → in_runs runs h.runs ≡ [] → behind_runs runs h.runs ≡ h.runs
     → leaf_lines (record { leaves = leaves; runs = leaf_runs }) h ++ device_lines (record { devices = devices; pieces = pieces; runs = runs }) h
     ≡ told_leaves 0 h.leaves h.leaf_runs ++ told_devices h.devices h.pieces h.runs
 unfolding leaf_lines lines_of_rest
-all_told h leaves leaf_runs devices pieces runs first all run_at run_left device_at device_all piece_at piece_left own_at own_left k =
-    (told_runs (none_in leaf_runs h.leaf_runs run_left k) ++ told_leaves (first k) (all_in leaves h.leaves first all k) (all_behind leaf_runs h.leaf_runs run_at run_left k))
-    ++ lines_of_rest (none_in runs h.runs own_left k) (none_in pieces h.pieces piece_left k) (all_in devices h.devices device_at device_all k) (all_behind pieces h.pieces piece_at piece_left k)
-    (all_behind runs h.runs own_at own_left k)
+all_told h leaves leaf_runs devices pieces runs first all run_none run_all device_at device_all piece_at piece_left own_none own_all k =
+    (told_runs (run_none k) ++ told_leaves (first k) (all_in leaves h.leaves first all k) (run_all k))
+    ++ lines_of_rest (own_none k) (none_in pieces h.pieces piece_left k) (all_in devices h.devices device_at device_all k) (all_behind pieces h.pieces piece_at piece_left k) (own_all k)

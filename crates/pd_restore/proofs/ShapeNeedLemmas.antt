@@ -19,6 +19,7 @@ use Rattle.pd_salvage.specs.declared.saved_shape.ShapedDevice.{ShapedDevice}
 use Rattle.pd_salvage.specs.SavedShape.{device_part, device_parts, piece_part, piece_parts, runs_of_piece, runs_of_pieces}
 use Rattle.pd_restore.specs.declared.shape_need.LeafCounts.{LeafCounts}
 use Rattle.pd_restore.specs.declared.shape_need.TreeCounts.{TreeCounts}
+use Rattle.pd_runs.specs.Places.{runs_from}
 use Rattle.pd_restore.proofs.ShapeLineLemmas.{row_none}
 use Rattle.pd_restore.specs.ShapeNeed.{AddsDevice, AddsPiece, CountsDevices, CountsPieces, own_leaves, pieces_of, tree_of_part, trees_of_parts, uses_number}
 
@@ -62,46 +63,49 @@ uses_append ps qs =
     ∙ length-append (flat_map uses_of_piece (map piece_of_part ps)) (flat_map uses_of_piece (map piece_of_part qs)))
 
 -- no piece has no leaf
-pub no_pieces : (runs : List Run) (c : LeafCounts) → c.own ≡ 0 → c.uses ≡ 0 → c.runs ≡ 0 → CountsPieces [] runs c
+pub no_pieces : (all runs : List Run) (c : LeafCounts) → c.own ≡ 0 → c.uses ≡ 0 → runs_from all c.place ≡ runs → CountsPieces [] all runs c
 unfolding own_leaves uses_number
-no_pieces runs c mine uses none = record { own = mine; uses = uses; taken = none }
+no_pieces all runs c mine uses none = record { own = mine; uses = uses; taken = none }
 
 -- a piece of a device's own, or a use
-pub own_piece : (old c : LeafCounts) (k : ℕ) (runs : List Run) → c.own ≡ old.own + nodes_for 252 (length (mappings_of_runs (map spelled (take k (drop old.runs runs)))))
-    → c.uses ≡ old.uses → c.runs ≡ old.runs + k → AddsPiece old (Own k) runs c
+pub own_piece : (old c : LeafCounts) (k : ℕ) (all : List Run) → c.own ≡ old.own + nodes_for 252 (length (mappings_of_runs (map spelled (take k (runs_from all old.place)))))
+    → c.uses ≡ old.uses → runs_from all c.place ≡ drop k (runs_from all old.place) → AddsPiece old (Own k) all c
 unfolding own_leaves uses_number
-own_piece old c k runs mine uses more = record {
-  own = omega (arith, mine, sum_by-cons (λ n. nodes_for 252 n) (length (mappings_of_runs (map spelled (take k (drop old.runs runs))))) []);
+own_piece old c k all mine uses more = record {
+  own = omega (arith, mine, sum_by-cons (λ n. nodes_for 252 n) (length (mappings_of_runs (map spelled (take k (runs_from all old.place))))) []);
   uses = omega (arith, uses);
   taken = more;
 }
 
-pub used_piece : (old c : LeafCounts) (number : ℕ) (runs : List Run) → c.own ≡ old.own → c.uses ≡ old.uses + 1 → c.runs ≡ old.runs → AddsPiece old (Shared number) runs c
+pub used_piece : (old c : LeafCounts) (number : ℕ) (all : List Run) → c.own ≡ old.own → c.uses ≡ old.uses + 1 → c.place ≡ old.place → AddsPiece old (Shared number) all c
 unfolding own_leaves uses_number
-used_piece old c number runs mine uses same = record { own = omega (arith, mine); uses = uses; taken = omega (arith, same) }
+used_piece old c number all mine uses same = record { own = omega (arith, mine); uses = uses; taken = ap (runs_from all) same }
 
 -- with it the pieces before it
-pub pieces_more : (pieces : List SavedPiece) (runs : List Run) (i : ℕ) (d : SavedPiece) (old c : LeafCounts) → i < length pieces
-    → CountsPieces (take i pieces) runs old → AddsPiece old (get_or pieces i d) runs c → CountsPieces (take (i + 1) pieces) runs c
-pieces_more pieces runs i d old c within before adds =
+pub pieces_more : (pieces : List SavedPiece) (all runs : List Run) (i : ℕ) (d : SavedPiece) (old c : LeafCounts) → i < length pieces
+    → CountsPieces (take i pieces) all runs old → AddsPiece old (get_or pieces i d) all c → CountsPieces (take (i + 1) pieces) all runs c
+pieces_more pieces all runs i d old c within before adds =
     let p = get_or pieces i d in
     let front = take i pieces in
-    let parts : piece_parts (front ++ p ∷ []) runs ≡ piece_parts front runs ++ piece_parts (p ∷ []) (drop old.runs runs) =
-    pieces_append front (p ∷ []) runs ∙ ap (λ (n : ℕ). piece_parts front runs ++ piece_parts (p ∷ []) (drop n runs)) (sym before.taken) in
-    subst (λ (ps : List SavedPiece). CountsPieces ps runs c) (sym (take_more pieces i d within)) (record {
-      own = adds.own ∙ (ap (λ n. n + own_leaves (piece_parts (p ∷ []) (drop old.runs runs))) before.own
-          ∙ (sym (own_append (piece_parts front runs) (piece_parts (p ∷ []) (drop old.runs runs))) ∙ ap own_leaves (sym parts)));
-      uses = adds.uses ∙ (ap (λ n. n + uses_number (piece_parts (p ∷ []) (drop old.runs runs))) before.uses
-          ∙ (sym (uses_append (piece_parts front runs) (piece_parts (p ∷ []) (drop old.runs runs))) ∙ ap uses_number (sym parts)));
-      taken = adds.taken ∙ (ap (λ n. n + runs_of_piece p) before.taken ∙ one_more front p);
+    let later = runs_from all old.place in
+    let parts : piece_parts (front ++ p ∷ []) runs ≡ piece_parts front runs ++ piece_parts (p ∷ []) later =
+    pieces_append front (p ∷ []) runs ∙ ap (λ (rs : List Run). piece_parts front runs ++ piece_parts (p ∷ []) rs) (sym before.taken) in
+    subst (λ (ps : List SavedPiece). CountsPieces ps all runs c) (sym (take_more pieces i d within)) (record {
+      own = adds.own ∙ (ap (λ n. n + own_leaves (piece_parts (p ∷ []) later)) before.own
+          ∙ (sym (own_append (piece_parts front runs) (piece_parts (p ∷ []) later)) ∙ ap own_leaves (sym parts)));
+      uses = adds.uses ∙ (ap (λ n. n + uses_number (piece_parts (p ∷ []) later)) before.uses
+          ∙ (sym (uses_append (piece_parts front runs) (piece_parts (p ∷ []) later)) ∙ ap uses_number (sym parts)));
+      taken =
+          adds.taken ∙ (ap (λ (rs : List Run). drop (runs_of_piece p) rs) before.taken
+          ∙ (drop-drop (runs_of_piece p) (runs_of_pieces front) runs ∙ ap (λ (n : ℕ). drop n runs) (one_more front p)));
     })
   where
     one_more : (front : List SavedPiece) (p : SavedPiece) → runs_of_pieces front + runs_of_piece p ≡ runs_of_pieces (front ++ p ∷ [])
     one_more front p = omega (arith, sum_by-append runs_of_piece front (p ∷ []), runs_more p [])
 
 -- all of them
-pub pieces_all : (pieces : List SavedPiece) (runs : List Run) (i : ℕ) (c : LeafCounts) → length pieces ≤ i → CountsPieces (take i pieces) runs c → CountsPieces pieces runs c
-pieces_all pieces runs i c all counts = subst (λ (ps : List SavedPiece). CountsPieces ps runs c) (take_all i pieces all) counts
+pub pieces_all : (pieces : List SavedPiece) (all runs : List Run) (i : ℕ) (c : LeafCounts) → length pieces ≤ i → CountsPieces (take i pieces) all runs c → CountsPieces pieces all runs c
+pieces_all pieces all runs i c over counts = subst (λ (ps : List SavedPiece). CountsPieces ps all runs c) (take_all i pieces over) counts
 
 -- the pieces of devices, and of others behind them
 pieces_of_more : (d : ShapedDevice) (ds : List ShapedDevice) → pieces_of (d ∷ ds) ≡ d.pieces + pieces_of ds
@@ -133,19 +137,19 @@ unfolding trees_of_parts
 trees_append ps qs = sum_by-append tree_of_part ps qs
 
 -- no device has no tree
-pub no_devices : (pieces : List SavedPiece) (runs : List Run) (c : TreeCounts) → c.trees ≡ 0 → c.pieces ≡ 0 → c.runs ≡ 0 → CountsDevices [] pieces runs c
+pub no_devices : (pieces : List SavedPiece) (runs : List Run) (c : TreeCounts) → c.trees ≡ 0 → c.pieces ≡ 0 → runs_from runs c.place ≡ runs → CountsDevices [] pieces runs c
 unfolding trees_of_parts
 no_devices pieces runs c trees ps none = record { trees = trees; met = ps; taken = none }
 
 -- a device
 pub one_device : (old c : TreeCounts) (leaves : LeafCounts) (d : ShapedDevice) (pieces : List SavedPiece) (runs : List Run)
-    → CountsPieces (take d.pieces (drop old.pieces pieces)) (drop old.runs runs) leaves → c.trees ≡ old.trees + need_ended leaves.own leaves.uses → c.pieces ≡ old.pieces + d.pieces
-    → c.runs ≡ old.runs + leaves.runs → AddsDevice old d pieces runs c
+    → CountsPieces (take d.pieces (drop old.pieces pieces)) runs (runs_from runs old.place) leaves → c.trees ≡ old.trees + need_ended leaves.own leaves.uses → c.pieces ≡ old.pieces + d.pieces
+    → c.place ≡ leaves.place → AddsDevice old d pieces runs c
 unfolding trees_of_parts
 one_device old c leaves d pieces runs counts trees ps more = record {
   trees = trees ∙ (ap₂ (λ (mine uses : ℕ). old.trees + need_ended mine uses) counts.own counts.uses ∙ omega arith);
   met = ps;
-  taken = more ∙ ap (λ n. old.runs + n) counts.taken;
+  taken = ap (runs_from runs) more ∙ counts.taken;
 }
 
 -- with it the devices before it
@@ -154,19 +158,22 @@ pub devices_more : (devices : List ShapedDevice) (pieces : List SavedPiece) (run
 devices_more devices pieces runs i d old c within before adds =
     let e = get_or devices i d in
     let front = take i devices in
-    let parts : device_parts (front ++ e ∷ []) pieces runs ≡ device_parts front pieces runs ++ device_parts (e ∷ []) (drop old.pieces pieces) (drop old.runs runs) =
+    let later = runs_from runs old.place in
+    let parts : device_parts (front ++ e ∷ []) pieces runs ≡ device_parts front pieces runs ++ device_parts (e ∷ []) (drop old.pieces pieces) later =
     devices_append front (e ∷ []) pieces runs
-    ∙ ap₂ (λ (n m : ℕ). device_parts front pieces runs ++ device_parts (e ∷ []) (drop n pieces) (drop m runs)) (sym before.met) (sym before.taken) in
+    ∙ ap₂ (λ (n : ℕ) (rs : List Run). device_parts front pieces runs ++ device_parts (e ∷ []) (drop n pieces) rs) (sym before.met) (sym before.taken) in
     let number : pieces_of (front ++ e ∷ []) ≡ old.pieces + e.pieces = omega (arith, sum_by-append (λ (d : ShapedDevice). d.pieces) front (e ∷ []), pieces_of_more e [], before.met) in
-    let taken : take (pieces_of (front ++ e ∷ [])) pieces ≡ take (pieces_of front) pieces ++ take e.pieces (drop old.pieces pieces) =
+    let mine = take e.pieces (drop old.pieces pieces) in
+    let taken : take (pieces_of (front ++ e ∷ [])) pieces ≡ take (pieces_of front) pieces ++ mine =
     ap (λ (n : ℕ). take n pieces) number
-    ∙ (take_front old.pieces e.pieces pieces ∙ ap (λ (n : ℕ). take n pieces ++ take e.pieces (drop old.pieces pieces)) before.met) in
+    ∙ (take_front old.pieces e.pieces pieces ∙ ap (λ (n : ℕ). take n pieces ++ mine) before.met) in
     subst (λ (ds : List ShapedDevice). CountsDevices ds pieces runs c) (sym (take_more devices i d within)) (record {
-      trees = adds.trees ∙ (ap (λ n. n + trees_of_parts (device_parts (e ∷ []) (drop old.pieces pieces) (drop old.runs runs))) before.trees
-          ∙ (sym (trees_append (device_parts front pieces runs) (device_parts (e ∷ []) (drop old.pieces pieces) (drop old.runs runs))) ∙ ap trees_of_parts (sym parts)));
+      trees = adds.trees ∙ (ap (λ n. n + trees_of_parts (device_parts (e ∷ []) (drop old.pieces pieces) later)) before.trees
+          ∙ (sym (trees_append (device_parts front pieces runs) (device_parts (e ∷ []) (drop old.pieces pieces) later)) ∙ ap trees_of_parts (sym parts)));
       met = adds.met ∙ sym number;
-      taken = adds.taken ∙ (ap (λ n. n + runs_of_pieces (take e.pieces (drop old.pieces pieces))) before.taken
-          ∙ (sym (sum_by-append runs_of_piece (take (pieces_of front) pieces) (take e.pieces (drop old.pieces pieces))) ∙ ap runs_of_pieces (sym taken)));
+      taken = adds.taken ∙ (ap (λ (rs : List Run). drop (runs_of_pieces mine) rs) before.taken
+          ∙ (drop-drop (runs_of_pieces mine) (runs_of_pieces (take (pieces_of front) pieces)) runs
+          ∙ ap (λ (n : ℕ). drop n runs) (sym (sum_by-append runs_of_piece (take (pieces_of front) pieces) mine) ∙ ap runs_of_pieces (sym taken))));
     })
 
 -- all of them

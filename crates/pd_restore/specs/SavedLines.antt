@@ -1,5 +1,5 @@
 -- The lines of what was saved of a pool, as they stand in a text.
-use Rattle.std.specs.Prelude.{ℕ, ◌+◌, List, ◌++◌, map, take, drop}
+use Rattle.std.specs.Prelude.{ℕ, List, ◌++◌, map, drop}
 use Rattle.std.specs.List.{flat_map}
 use Rattle.pd_grammar.specs.Texts.{text_of_lines}
 use Rattle.pd_thin_meaning.specs.declared.joined.Run.{Run}
@@ -8,16 +8,16 @@ use Rattle.pd_spells.specs.ThinText.{Line, lines_of_part, lines_of_parts, map_li
 use Rattle.pd_salvage.specs.declared.saved.SavedDevice.{SavedDevice}
 use Rattle.pd_salvage.specs.Saved.{SavedPool, parts_of}
 use Rattle.pd_restore.specs.declared.saved_lines.SavedLines.{SavedLines}
+use Rattle.pd_restore.specs.Spans.{behind_runs, in_runs}
 use Rattle.pd_restore.specs.Whole.{head_of_pool}
 
--- the lines of so many runs from this one on, and those of the devices from this one on, each with its runs
-unfoldable pub lines_at : List SavedDevice → List Run → ℕ → ℕ → ℕ → List Line
-lines_at devices runs device run left =
-    map map_line (map spelled (take left (drop run runs))) ++ flat_map lines_of_part (parts_of (drop device devices) (drop (run + left) runs))
+-- the lines of these runs, and those of these devices, each with its runs
+unfoldable pub lines_at : List Run → List SavedDevice → List Run → List Line
+lines_at first devices runs = map map_line (map spelled first) ++ flat_map lines_of_part (parts_of devices runs)
 
 -- the lines that are still to come, but for the last one
 abbrev pub lines_left : SavedLines → List Line
-lines_left made = lines_at made.saved.devices made.saved.runs made.device made.run made.left
+lines_left made = lines_at (in_runs made.runs made.saved.runs) (drop made.device made.saved.devices) (behind_runs made.runs made.saved.runs)
 
 -- the text of the pool
 abbrev pub saved_lines : SavedPool → List Line

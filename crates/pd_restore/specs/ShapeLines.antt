@@ -13,7 +13,7 @@ use Rattle.pd_salvage.specs.SavedShape.{HeldShape, device_parts, held_shape, lea
 use Rattle.pd_restore.specs.declared.shape_lines.DeviceLines.{DeviceLines}
 use Rattle.pd_restore.specs.declared.shape_lines.LeafLines.{LeafLines}
 use Rattle.pd_restore.specs.declared.shape_lines.ShapeLines.{ShapeLines}
-use Rattle.pd_restore.specs.Spans.{behind, in_span}
+use Rattle.pd_restore.specs.Spans.{behind, behind_runs, in_runs, in_span}
 
 -- the lines of runs; of leaves from a number on, each with as many of the runs as are its; of pieces; and of devices
 abbrev pub told_runs : List Run → List Line
@@ -32,7 +32,7 @@ told_devices devices pieces runs = flat_map lines_of_part (device_parts devices 
 
 -- the lines of the leaves, and those of the devices, that are still to come
 unfoldable pub leaf_lines : LeafLines → HeldShape → List Line
-leaf_lines made h = told_runs (in_span made.runs h.leaf_runs) ++ told_leaves made.leaves.at (in_span made.leaves h.leaves) (behind made.runs h.leaf_runs)
+leaf_lines made h = told_runs (in_runs made.runs h.leaf_runs) ++ told_leaves made.leaves.at (in_span made.leaves h.leaves) (behind_runs made.runs h.leaf_runs)
 
 -- those of runs, of the pieces behind them, and of the devices behind these
 unfoldable pub lines_of_rest : List Run → List SavedPiece → List ShapedDevice → List SavedPiece → List Run → List Line
@@ -41,7 +41,7 @@ lines_of_rest first pieces devices later runs =
 
 abbrev pub device_lines : DeviceLines → HeldShape → List Line
 device_lines made h =
-    lines_of_rest (in_span made.runs h.runs) (in_span made.pieces h.pieces) (in_span made.devices h.devices) (behind made.pieces h.pieces) (behind made.runs h.runs)
+    lines_of_rest (in_runs made.runs h.runs) (in_span made.pieces h.pieces) (in_span made.devices h.devices) (behind made.pieces h.pieces) (behind_runs made.runs h.runs)
 
 abbrev pub lines_left : ShapeLines → List Line
 lines_left made = leaf_lines made.leaves made.saved ++ device_lines made.devices made.saved

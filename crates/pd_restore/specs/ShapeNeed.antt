@@ -6,6 +6,7 @@ use Rattle.pd_shapes.specs.SharedNeed.{own_number}
 use Rattle.pd_shapes.specs.SharedText.{PartPiece, SharedPart, piece_of_part}
 use Rattle.pd_shared_devices.specs.Growth.{need_ended}
 use Rattle.pd_spells.specs.Need.{nodes_for}
+use Rattle.pd_runs.specs.Places.{runs_from}
 use Rattle.pd_thin_meaning.specs.declared.joined.Run.{Run}
 use Rattle.pd_salvage.specs.declared.saved_shape.SavedPiece.{SavedPiece}
 use Rattle.pd_salvage.specs.declared.saved_shape.SavedPiece.TheVariants.{Own, Shared}
@@ -37,22 +38,22 @@ tree_of_part part = need_ended (own_leaves part.pieces) (uses_number part.pieces
 unfoldable pub trees_of_parts : List SharedPart → ℕ
 trees_of_parts parts = sum_by tree_of_part parts
 
--- these are the numbers of some pieces, whose runs come first; and those with a piece more, whose runs come next
-pub record CountsPieces (pieces : List SavedPiece) (runs : List Run) (c : LeafCounts) : Type 0 where
+-- these are the numbers of some pieces, whose runs come first of these; and those with a piece more, whose runs come next
+pub record CountsPieces (pieces : List SavedPiece) (all runs : List Run) (c : LeafCounts) : Type 0 where
   pub own : c.own ≡ own_leaves (piece_parts pieces runs)
   pub uses : c.uses ≡ uses_number (piece_parts pieces runs)
-  pub taken : c.runs ≡ runs_of_pieces pieces
+  pub taken : runs_from all c.place ≡ drop (runs_of_pieces pieces) runs
 
-pub record AddsPiece (old : LeafCounts) (piece : SavedPiece) (runs : List Run) (c : LeafCounts) : Type 0 where
-  pub own : c.own ≡ old.own + own_leaves (piece_parts (piece ∷ []) (drop old.runs runs))
-  pub uses : c.uses ≡ old.uses + uses_number (piece_parts (piece ∷ []) (drop old.runs runs))
-  pub taken : c.runs ≡ old.runs + runs_of_piece piece
+pub record AddsPiece (old : LeafCounts) (piece : SavedPiece) (all : List Run) (c : LeafCounts) : Type 0 where
+  pub own : c.own ≡ old.own + own_leaves (piece_parts (piece ∷ []) (runs_from all old.place))
+  pub uses : c.uses ≡ old.uses + uses_number (piece_parts (piece ∷ []) (runs_from all old.place))
+  pub taken : runs_from all c.place ≡ drop (runs_of_piece piece) (runs_from all old.place)
 
 -- the same with a device more, whose pieces and runs come next
 pub record AddsDevice (old : TreeCounts) (d : ShapedDevice) (pieces : List SavedPiece) (runs : List Run) (c : TreeCounts) : Type 0 where
-  pub trees : c.trees ≡ old.trees + trees_of_parts (device_parts (d ∷ []) (drop old.pieces pieces) (drop old.runs runs))
+  pub trees : c.trees ≡ old.trees + trees_of_parts (device_parts (d ∷ []) (drop old.pieces pieces) (runs_from runs old.place))
   pub met : c.pieces ≡ old.pieces + d.pieces
-  pub taken : c.runs ≡ old.runs + runs_of_pieces (take d.pieces (drop old.pieces pieces))
+  pub taken : runs_from runs c.place ≡ drop (runs_of_pieces (take d.pieces (drop old.pieces pieces))) (runs_from runs old.place)
 
 -- how many pieces some devices have
 abbrev pub pieces_of : List ShapedDevice → ℕ
@@ -62,4 +63,4 @@ pieces_of devices = sum_by (λ (d : ShapedDevice). d.pieces) devices
 pub record CountsDevices (devices : List ShapedDevice) (pieces : List SavedPiece) (runs : List Run) (c : TreeCounts) : Type 0 where
   pub trees : c.trees ≡ trees_of_parts (device_parts devices pieces runs)
   pub met : c.pieces ≡ pieces_of devices
-  pub taken : c.runs ≡ runs_of_pieces (take (pieces_of devices) pieces)
+  pub taken : runs_from runs c.place ≡ drop (runs_of_pieces (take (pieces_of devices) pieces)) runs

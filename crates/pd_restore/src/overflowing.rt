@@ -7,7 +7,7 @@ ghost use Rattle.pd_devices.specs.Counts.{overflows_of};
 ghost use Rattle.pd_restore.specs.Overflowing.{HasCountedThrice, data_of_runs};
 
 use pd_count::Counts;
-use pd_thin_meaning::Run;
+use pd_runs::PackedRuns;
 use std::alloc::{AllocError, Global};
 
 /// How often each data block stands in what was saved, up to three times, and how many do so three times or more.
@@ -52,13 +52,14 @@ impl Thrice {
     }
 
     /// Counts the data blocks of these runs once more.
-    pub(crate) fn add_runs(&mut self, runs: &[Run]) -> Result<(), AllocError>
+    pub(crate) fn add_runs(&mut self, runs: &PackedRuns) -> Result<(), AllocError>
         requires within { AllByRecursion (λ (r : SavedRun). r.target + r.length ≤ self.old.counts.size) runs.now }
         ensures size { OnOk result (self.new.counts.size ≡ self.old.counts.size) }
         ensures listed { (before : List ℕ) → HasCountedThrice self.old.counts before
             → OnOk result (HasCountedThrice self.new.counts (before ++ data_of_runs runs.now)) }
     {
-        for run in runs {
+        let mut place = runs.first();
+        while let Some(run) = runs.next(&mut place) {
             self.add_run(run.target, run.length)?;
         }
         Ok(())

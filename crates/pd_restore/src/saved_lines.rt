@@ -9,41 +9,42 @@ ghost use Rattle.pd_spells.specs.ThinText.{lines_of_part};
 ghost use Rattle.pd_texts.specs.ThinLine.{line_of};
 
 use crate::giving::Giving;
+use crate::span::RunSpan;
 use pd_salvage::Salvage;
 use pd_texts::{Run2, ThinLine};
 use pd_thin_meaning::Run;
 
 /// The lines of a saved pool's text that stand between its pool line and its last one. They take no more memory.
 ///
-/// The next one is that of this run, of which with it so many are still the last device's; and where there are none, that
-/// of this device, or after the last of these none.
+/// The next one is that of the first of these runs, which are still the last device's; and where there are none, that of this
+/// device, or after the last of these none.
 #[derive(Drop)]
 pub(crate) struct SavedLines {
     saved: Salvage,
     device: usize,
-    run: usize,
-    left: usize,
+    runs: RunSpan,
 }
 
 impl SavedLines {
-    ghost use Rattle.pd_restore.specs.SavedLines.{lines_at, lines_left};
+    ghost use Rattle.pd_restore.specs.SavedLines.{lines_left};
 
     /// All of them.
     pub(crate) fn new(saved: Salvage) -> SavedLines
         ensures { lines_left result ≡ flat_map lines_of_part (parts_of saved.devices saved.runs) }
     {
+        let runs = RunSpan::none_of(saved.runs());
         SavedLines {
             saved,
             device: 0,
-            run: 0,
-            left: 0,
+            runs,
         }
     }
 
     /// The line of a device whose runs begin here.
     fn next_device(&mut self) -> Option<ThinLine>
-        ensures some { IfSome result (λ line. lines_at self.old.saved.devices self.old.saved.runs self.old.device self.old.run 0 ≡ line_of line ∷ lines_left self.new) }
-        ensures none { IfNone result (lines_at self.old.saved.devices self.old.saved.runs self.old.device self.old.run 0 ≡ []) }
+        requires { self.old.runs.left ≡ 0 }
+        ensures some { IfSome result (λ line. lines_left self.old ≡ line_of line ∷ lines_left self.new) }
+        ensures none { IfNone result (lines_left self.old ≡ []) }
     {
         match self.saved.devices().get(self.device) {
             Some(next) => {
@@ -51,7 +52,7 @@ impl SavedLines {
                     id: next.id,
                     details: next.details,
                 };
-                self.left = next.runs;
+                self.runs.left = next.runs;
                 self.device += 1;
                 Some(line)
             }
@@ -66,18 +67,10 @@ impl Giving for SavedLines {
     ghost coming = { lines_left };
 
     fn next(&mut self) -> Option<ThinLine> {
-        if self.left == 0 {
-            return self.next_device();
+        if let Some(run) = self.runs.next(self.saved.runs()) {
+            return Some(map_line(&run));
         }
-        match self.saved.runs().get(self.run) {
-            Some(mapped) => {
-                let line = map_line(mapped);
-                self.run += 1;
-                self.left -= 1;
-                Some(line)
-            }
-            None => self.next_device(),
-        }
+        self.next_device()
     }
 }
 

@@ -10,8 +10,8 @@ ghost use Rattle.pd_restore.specs.Overflowing.{data_of_runs};
 
 use crate::overflowing::Thrice;
 use pd_devices::need_thin;
+use pd_runs::PackedRuns;
 use pd_salvage::{Salvage, SavedDevice};
-use pd_thin_meaning::Run;
 use std::alloc::{AllocError, Global};
 
 /// How many blocks the pool needs, where there are so many for metadata. `None` where memory is wanting: a number that
@@ -43,7 +43,7 @@ fn mapped_of(alloc: Global, devices: &[SavedDevice]) -> Result<Vec<u64>, AllocEr
 }
 
 /// How many of so many data blocks stand three times or more in the runs.
-fn over_of(alloc: Global, blocks: u64, runs: &[Run]) -> Result<u64, AllocError>
+fn over_of(alloc: Global, blocks: u64, runs: &PackedRuns) -> Result<u64, AllocError>
     requires { AllByRecursion (λ (r : SavedRun). r.target + r.length ≤ blocks) runs.now }
     ensures { IfOk result (λ over. over ≡ overflows_in (data_of_runs runs.now) blocks) }
 {

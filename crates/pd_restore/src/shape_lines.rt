@@ -8,7 +8,7 @@ ghost use Rattle.pd_restore.specs.ShapeLines.{told_devices, told_leaves};
 
 use crate::giving::Giving;
 use crate::saved_lines::map_line;
-use crate::span::Span;
+use crate::span::{RunSpan, Span};
 use pd_salvage::{SavedPiece, SavedShape};
 use pd_texts::ThinLine;
 
@@ -16,7 +16,7 @@ use pd_texts::ThinLine;
 #[derive(Clone, Copy)]
 pub(crate) struct LeafLines {
     leaves: Span,
-    runs: Span,
+    runs: RunSpan,
 }
 
 impl LeafLines {
@@ -51,7 +51,7 @@ impl LeafLines {
 pub(crate) struct DeviceLines {
     devices: Span,
     pieces: Span,
-    runs: Span,
+    runs: RunSpan,
 }
 
 impl DeviceLines {
@@ -115,17 +115,19 @@ impl ShapeLines {
         ensures { lines_left result ≡ told_leaves 0 saved.leaves saved.leaf_runs ++ told_devices saved.devices saved.pieces saved.runs }
     {
         let leaves = all_of(saved.leaves().len());
+        let leaf_runs = RunSpan::none_of(saved.leaf_runs());
         let devices = all_of(saved.devices().len());
+        let runs = RunSpan::none_of(saved.runs());
         ShapeLines {
             saved,
             leaves: LeafLines {
                 leaves,
-                runs: all_of(0),
+                runs: leaf_runs,
             },
             devices: DeviceLines {
                 devices,
                 pieces: all_of(0),
-                runs: all_of(0),
+                runs,
             },
         }
     }

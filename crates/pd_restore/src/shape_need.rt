@@ -1,9 +1,10 @@
 //! How many blocks a saved shape needs.
 
-ghost use Rattle.std.specs.Prelude.{◌≡◌, ◌+◌, ◌≤◌, ℕ, List, ◌++◌, map, IfOk, IfSome, OnOk};
+ghost use Rattle.std.specs.Prelude.{◌≡◌, ◌+◌, ◌≤◌, ℕ, List, ◌++◌, drop, map, take, IfOk, IfSome, OnOk};
 ghost use Rattle.std.specs.List.{AllByRecursion, flat_map};
 ghost use Rattle.pd_thin_meaning.specs.declared.joined.Run.{Run as SavedRun};
 ghost use Rattle.pd_thin_meaning.specs.Joined.{spelled};
+ghost use Rattle.pd_runs.specs.Places.{runs_from};
 ghost use Rattle.pd_salvage.specs.SavedShape.{device_parts, held_shape};
 ghost use Rattle.pd_shapes.specs.SharedNeed.{shape_need};
 ghost use Rattle.pd_spells.specs.ThinNeed.{overflows_in};
@@ -12,9 +13,10 @@ ghost use Rattle.pd_spells.specs.ThinText.{number_in};
 ghost use Rattle.pd_restore.specs.ShapeNeed.{AddsDevice, AddsPiece, IsUseBelow, CountsPieces, trees_of_parts, uses_of_saved};
 
 use crate::overflowing::Thrice;
+use crate::span::RunSpan;
+use pd_runs::{PackedRuns, RunPlace};
 use pd_salvage::{SavedPiece, SavedShape, ShapedDevice};
 use pd_shared_devices::{NeedCounts, leaves_for, need_of, tree_ended};
-use pd_thin_meaning::Run;
 use std::alloc::{AllocError, Global};
 
 /// The most leaves that are counted of a device.
@@ -52,7 +54,12 @@ pub fn need_of_shape(alloc: Global, saved: &SavedShape, room: u64) -> Option<u64
 }
 
 /// How many of so many data blocks stand three times or more in these runs and in those.
-fn over_of(alloc: Global, blocks: u64, runs: &[Run], others: &[Run]) -> Result<u64, AllocError>
+fn over_of(
+    alloc: Global,
+    blocks: u64,
+    runs: &PackedRuns,
+    others: &PackedRuns,
+) -> Result<u64, AllocError>
     requires runs { AllByRecursion (λ (r : SavedRun). r.target + r.length ≤ blocks) runs.now }
     requires others { AllByRecursion (λ (r : SavedRun). r.target + r.length ≤ blocks) others.now }
     ensures { IfOk result (λ over. over ≡ overflows_in (data_of_runs runs.now ++ data_of_runs others.now) blocks) }
@@ -88,22 +95,23 @@ fn count_use(counted: &mut Thrice, piece: &SavedPiece) -> Result<(), AllocError>
     }
 }
 
-/// The trees of some devices: how many blocks they have besides the shared leaves, and how many pieces and runs they take.
+/// The trees of some devices: how many blocks they have besides the shared leaves, how many pieces they take, and the place
+/// behind their runs.
 #[derive(Clone, Copy)]
 struct TreeCounts {
     trees: u64,
     pieces: usize,
-    runs: usize,
+    place: RunPlace,
 }
 
 /// How many blocks the trees of these devices have besides the shared leaves, where that fits.
-fn trees_of(devices: &[ShapedDevice], pieces: &[SavedPiece], runs: &[Run]) -> Option<u64>
+fn trees_of(devices: &[ShapedDevice], pieces: &[SavedPiece], runs: &PackedRuns) -> Option<u64>
     ensures { IfSome result (λ trees. trees ≡ trees_of_parts (device_parts devices.now pieces.now runs.now)) }
 {
     let mut counts = TreeCounts {
         trees: 0,
         pieces: 0,
-        runs: 0,
+        place: runs.first(),
     };
     for device in devices {
         match with_device(counts, device, pieces, runs) {
@@ -119,7 +127,7 @@ fn with_device(
     counts: TreeCounts,
     device: &ShapedDevice,
     pieces: &[SavedPiece],
-    runs: &[Run],
+    runs: &PackedRuns,
 ) -> Option<TreeCounts>
     ensures { IfSome result (AddsDevice counts device.now pieces.now runs.now) }
 {
@@ -127,10 +135,7 @@ fn with_device(
     if end > pieces.len() {
         return None;
     }
-    if counts.runs > runs.len() {
-        return None;
-    }
-    let leaves = leaves_of(&pieces[counts.pieces..end], &runs[counts.runs..])?;
+    let leaves = leaves_of(&pieces[counts.pieces..end], runs, counts.place)?;
     if leaves.own > MOST || leaves.uses > MOST {
         return None;
     }
@@ -139,26 +144,26 @@ fn with_device(
             .trees
             .checked_add(tree_ended(leaves.own, leaves.uses))?,
         pieces: end,
-        runs: counts.runs.checked_add(leaves.runs)?,
+        place: leaves.place,
     })
 }
 
-/// The leaves of some pieces: how many are a device's own, how many it uses, and how many runs the pieces take.
+/// The leaves of some pieces: how many are a device's own, how many it uses, and the place behind the pieces' runs.
 #[derive(Clone, Copy)]
 struct LeafCounts {
     own: u64,
     uses: u64,
-    runs: usize,
+    place: RunPlace,
 }
 
-/// The leaves of these pieces, whose runs come first, where they fit.
-fn leaves_of(pieces: &[SavedPiece], runs: &[Run]) -> Option<LeafCounts>
-    ensures { IfSome result (CountsPieces pieces.now runs.now) }
+/// The leaves of these pieces, whose runs come at this place, where they fit.
+fn leaves_of(pieces: &[SavedPiece], runs: &PackedRuns, place: RunPlace) -> Option<LeafCounts>
+    ensures { IfSome result (CountsPieces pieces.now runs.now (runs_from runs.now place)) }
 {
     let mut counts = LeafCounts {
         own: 0,
         uses: 0,
-        runs: 0,
+        place,
     };
     for piece in pieces {
         match with_piece(counts, piece, runs) {
@@ -170,40 +175,43 @@ fn leaves_of(pieces: &[SavedPiece], runs: &[Run]) -> Option<LeafCounts>
 }
 
 /// The same with a piece more, whose runs come next.
-fn with_piece(counts: LeafCounts, piece: &SavedPiece, runs: &[Run]) -> Option<LeafCounts>
+fn with_piece(counts: LeafCounts, piece: &SavedPiece, runs: &PackedRuns) -> Option<LeafCounts>
     ensures { IfSome result (AddsPiece counts piece.now runs.now) }
 {
     match piece {
         SavedPiece::Own(number) => {
-            let end = counts.runs.checked_add(*number as usize)?;
-            if end > runs.len() {
-                return None;
-            }
-            let mappings = mappings_of(&runs[counts.runs..end])?;
+            let mut place = counts.place;
+            let mappings = mappings_of(runs, &mut place, *number as usize)?;
             Some(LeafCounts {
                 own: counts.own.checked_add(leaves_for(mappings))?,
                 uses: counts.uses,
-                runs: end,
+                place,
             })
         }
         SavedPiece::Shared(_) => Some(LeafCounts {
             own: counts.own,
             uses: counts.uses.checked_add(1)?,
-            runs: counts.runs,
+            place: counts.place,
         }),
     }
 }
 
-/// How many mappings these runs are, where their number fits.
-fn mappings_of(runs: &[Run]) -> Option<u64>
-    ensures { IfSome result (λ mappings. mappings ≡ number_in (map spelled runs.now)) }
+/// How many mappings so many runs at the place are, where their number fits; the place goes on behind them.
+fn mappings_of(runs: &PackedRuns, place: &mut RunPlace, number: usize) -> Option<u64>
+    ensures mappings { IfSome result (λ mappings. mappings ≡ number_in (map spelled (take number (runs_from runs.now place.old)))) }
+    ensures behind { IfSome result (λ _. runs_from runs.now place.new ≡ drop number (runs_from runs.now place.old)) }
 {
+    let mut row = RunSpan {
+        at: *place,
+        left: number,
+    };
     let mut mappings: u64 = 0;
-    for run in runs {
+    while let Some(run) = row.next(runs) {
         match mappings.checked_add(run.length) {
             Some(more) => mappings = more,
             None => return None,
         }
     }
+    *place = row.at;
     Some(mappings)
 }

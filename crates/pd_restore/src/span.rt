@@ -2,6 +2,9 @@
 
 ghost use Rattle.std.specs.Prelude.{◌≡◌, ◌∷◌, ◌+◌, ◌<◌, [], IfNone, IfSome};
 
+use pd_runs::{PackedRuns, RunPlace};
+use pd_thin_meaning::Run;
+
 /// So many elements from this one on.
 #[derive(Clone, Copy)]
 pub(crate) struct Span {
@@ -29,6 +32,51 @@ impl Span {
                 self.at += 1;
                 self.left -= 1;
                 Some(*item)
+            }
+            None => {
+                self.left = 0;
+                None
+            }
+        }
+    }
+}
+
+/// So many runs from this place on.
+#[derive(Clone, Copy)]
+pub(crate) struct RunSpan {
+    pub(crate) at: RunPlace,
+    pub(crate) left: usize,
+}
+
+impl RunSpan {
+    ghost use Rattle.pd_restore.specs.Spans.{behind_runs, in_runs};
+
+    /// None, before the first run.
+    pub(crate) fn none_of(runs: &PackedRuns) -> RunSpan
+        ensures none { in_runs result runs.now ≡ [] }
+        ensures behind { behind_runs result runs.now ≡ runs.now }
+    {
+        RunSpan {
+            at: runs.first(),
+            left: 0,
+        }
+    }
+
+    /// The next run, or none where there is none more. What stands behind the row stays.
+    pub(crate) fn next(&mut self, runs: &PackedRuns) -> Option<Run>
+        ensures some { IfSome result (λ run. in_runs self.old runs.now ≡ run ∷ in_runs self.new runs.now) }
+        ensures fewer { IfSome result (λ run. self.new.left < self.old.left) }
+        ensures none { IfNone result (in_runs self.old runs.now ≡ []) }
+        ensures ended { IfNone result (self.new.left ≡ 0) }
+        ensures behind { behind_runs self.new runs.now ≡ behind_runs self.old runs.now }
+    {
+        if self.left == 0 {
+            return None;
+        }
+        match runs.next(&mut self.at) {
+            Some(run) => {
+                self.left -= 1;
+                Some(run)
             }
             None => {
                 self.left = 0;

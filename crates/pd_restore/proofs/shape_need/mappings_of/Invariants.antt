@@ -1,7 +1,15 @@
-use Rattle.std.proofs.Common.{◌≡◌, map, take}
+use Rattle.std.proofs.Common.{◌≡◌, ◌+◌, drop, map, take}
+use Rattle.pd_runs.specs.Places.{runs_from}
 use Rattle.pd_spells.specs.ThinText.{number_in}
 use Rattle.pd_thin_meaning.specs.Joined.{spelled}
+use Rattle.pd_restore.specs.Spans.{behind_runs, in_runs}
 use Rattle.pd_restore.proofs.shape_need.mappings_of.Given as goal
 
 abbrev pub invariant-loop-run : goal.invariant-loop-run
-invariant-loop-run l = l.mappings ≡ number_in (map spelled (take l.run-index l.runs))
+invariant-loop-run l = record {
+  mapped : l.mappings + number_in (map spelled (in_runs l.row l.runs)) ≡ number_in (map spelled (take l.number (runs_from l.runs l.initial.place)));
+  stays : behind_runs l.row l.runs ≡ drop l.number (runs_from l.runs l.initial.place);
+}
+
+abbrev pub decreases-loop-run : goal.decreases-loop-run
+decreases-loop-run l = l.row.left

@@ -3,7 +3,7 @@ use Rattle.pd_restore.proofs.ShapeNeedLemmas.{devices_all, devices_more, no_devi
 use Rattle.pd_restore.proofs.shape_need.trees_of.Goals as goal
 
 pub loop-device-init : goal.loop-device-init
-loop-device-init c = no_devices c.args.pieces.now c.args.runs.now _ refl refl refl
+loop-device-init c = no_devices c.args.pieces.now c.args.runs.now _ refl refl c.first.ensures
 
 pub loop-device-preserved : goal.loop-device-preserved
 loop-device-preserved c =

@@ -1,6 +1,5 @@
-use Rattle.std.proofs.Common.{◌≡◌, ◌+◌, ◌-◌, List, ap, arith, drop, length, length-drop, subst, take, ◌∙◌}
-use Rattle.std.proofs.lemmas.List.{take_all}
-use Rattle.pd_thin_meaning.specs.declared.joined.Run.{Run}
+use Rattle.std.proofs.Common.{◌≡◌, ◌+◌, ◌-◌, ap, arith, drop, refl, subst, take, ◌∙◌}
+use Rattle.pd_runs.specs.Places.{runs_from}
 use Rattle.pd_restore.specs.declared.shape_need.TreeCounts.{TreeCounts}
 use Rattle.pd_restore.specs.ShapeNeed.{CountsPieces}
 use Rattle.pd_restore.proofs.ShapeNeedLemmas.{one_device}
@@ -14,9 +13,7 @@ returns c =
     let end = c.in_ok-end.ensures.1 in
     let size : c.in_ok-end.end - old.pieces ≡ d.pieces = omega (arith, end) in
     let runs = c.args.runs.now in
-    let rest : take (length runs - old.runs) (drop old.runs runs) ≡ drop old.runs runs = take_all (length runs - old.runs) (drop old.runs runs) (omega (arith, length-drop old.runs runs)) in
-    let new : TreeCounts = record { trees = c.in_ok-checked_add.field-0; pieces = c.in_ok-end.end; runs = c.in_ok-checked_add-2.field-0 } in
+    let new : TreeCounts = record { trees = c.in_ok-checked_add.field-0; pieces = c.in_ok-end.end; place = leaves.place } in
     one_device old new leaves d c.args.pieces.now runs
-    (subst (λ n. CountsPieces (take n (drop old.pieces c.args.pieces.now)) (drop old.runs runs) leaves) size
-    (subst (λ (rs : List Run). CountsPieces (take (c.in_ok-end.end - old.pieces) (drop old.pieces c.args.pieces.now)) rs leaves) rest c.in_ok-leaves.ensures))
-    (c.in_ok-checked_add.ensures.1 ∙ ap (λ n. old.trees + n) c.tree_ended.ensures) end c.in_ok-checked_add-2.ensures.1
+    (subst (λ n. CountsPieces (take n (drop old.pieces c.args.pieces.now)) runs (runs_from runs old.place) leaves) size c.in_ok-leaves.ensures)
+    (c.in_ok-checked_add.ensures.1 ∙ ap (λ n. old.trees + n) c.tree_ended.ensures) end refl

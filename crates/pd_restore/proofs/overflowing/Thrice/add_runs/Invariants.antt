@@ -1,9 +1,16 @@
-use Rattle.std.proofs.Common.{◌≡◌, ◌++◌, ℕ, List, take}
+use Rattle.std.proofs.Common.{◌≡◌, ◌++◌, ℕ, List, length}
+use Rattle.std.specs.List.{AllByRecursion}
+use Rattle.pd_runs.specs.Places.{runs_from}
 use Rattle.pd_restore.specs.Overflowing.{HasCountedThrice, data_of_runs}
+use Rattle.pd_restore.proofs.SavedNeedLemmas.{CountsFirst, IsWithin}
 use Rattle.pd_restore.proofs.overflowing.Thrice.add_runs.Given as goal
 
 abbrev pub invariant-loop-run : goal.invariant-loop-run
 invariant-loop-run l = record {
   size : l.self.counts.size ≡ l.initial.self.counts.size;
-  listed : (before : List ℕ) → HasCountedThrice l.initial.self.counts before → HasCountedThrice l.self.counts (before ++ data_of_runs (take l.run-index l.runs));
+  within : AllByRecursion (IsWithin l.initial.self.counts.size) (runs_from l.runs l.place);
+  listed : (before : List ℕ) → HasCountedThrice l.initial.self.counts before → CountsFirst l.self.counts (before ++ data_of_runs l.runs) (runs_from l.runs l.place);
 }
+
+abbrev pub decreases-loop-run : goal.decreases-loop-run
+decreases-loop-run l = length (runs_from l.runs l.place)

@@ -73,3 +73,6 @@ returns-in-Saved-clause-writes g c =
     let left = (g.S.Source.state c.args.source.now).left in
     rest_writes c.args.begun.pool c.args.begun.rest (Saved c.in-Saved.lines) c.args.room left left
     (draft_state c.args.draft.now) (draft_state c.write_saved.new.draft) c.write_saved.result c.in-Saved.is (c.write_saved.ensures.writes left)
+
+pub returns-clause-says : goal.returns-clause-says
+returns-clause-says g c t leaves = c.write_saved-in-Shape.ensures.says (g.S.Source.state c.args.source.now).left t (rw c.in-Shape.is at leaves)
