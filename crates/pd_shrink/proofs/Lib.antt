@@ -1,3 +1,4 @@
+pub mod MetLemmas
 pub mod GatherLemmas
 pub mod SearchLemmas
 pub mod FreeLemmas

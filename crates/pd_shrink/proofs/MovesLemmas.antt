@@ -93,13 +93,13 @@ module _ (saved : SavedPool) (sound : IsSavedPool saved) (end : ℕ) (moves : Li
   module _ (head : SavedHead) (devices : List SavedDevice) (runs : List Run) (moved : Moved) (head_is : head ≡ head_to saved.head end) (devices_are : devices ≡ saved.devices)
       (runs_are : runs ≡ saved.runs) (is : AreMoved moves devices runs moved) where
     abbrev after : SavedPool
-    after = record { head = head; devices = moved.devices.items; runs = moved.runs.items }
+    after = record { head = head; devices = moved.devices.items; runs = moved.runs }
 
     pub pool_after : pool_of after ≡ moved_pool (pool_of saved) end moves
     unfolding pool_of moved_pool
     pool_after =
         let same = rw (devices_are, runs_are) at is.same in
-        ap (λ (first : SavedHead). pool_with first (map device_of_part (parts_of moved.devices.items moved.runs.items))) head_is
+        ap (λ (first : SavedHead). pool_with first (map device_of_part (parts_of moved.devices.items moved.runs))) head_is
         ∙ ap (pool_with (head_to saved.head end)) same
 
     pub after_sound : ((m : ThinPool) (end : ℕ) (free : List ℕ) → IsLawfulPool m → IsMoving m end free → IsLawfulPool (moved_pool m end (moves_to (sources m end) free))) → IsSavedPool after

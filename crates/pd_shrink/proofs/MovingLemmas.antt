@@ -1,7 +1,7 @@
 -- The runs of a device whose data blocks were moved, and those of a pool's devices.
 use Rattle.std.proofs.Common.{◌≡◌, ℕ, zero, suc, ◌+◌, ◌-◌, ◌<◌, ◌≤◌, get_or, List, [], ◌∷◌, ◌++◌, length, map, take, drop, drop-cons, add-one, refl, ap, sym, subst, ◌∙◌, arith, append_assoc, length-drop}
 use Rattle.std.specs.List.{AllByRecursion}
-use Rattle.std.proofs.lemmas.List.{append-nil, length-append, map-append, take-append-drop, take_all, take_more}
+use Rattle.std.proofs.lemmas.List.{append-nil, length-append, map-append, take-append-drop, take_more}
 use Rattle.std.proofs.lemmas.List.Sums.{sum_by-append, sum_by-cons}
 use Rattle.pd_kinds.specs.Meaning.{Mapping, ThinDevice}
 use Rattle.pd_answers.specs.MovedPool.{Move, moved_device, moved_mapping, moved_to}
@@ -17,8 +17,9 @@ use Rattle.pd_salvage.proofs.SavingLemmas.{parts_more}
 use Rattle.pd_salvage.specs.declared.joined.Joining.{Joining}
 use Rattle.pd_shrink.specs.declared.moving.Moved.{Moved}
 use Rattle.pd_shrink.specs.Moving.{AddsMoved, AreMoved, AreMovesFrom, FitsRun}
+use Rattle.pd_shrink.proofs.MetLemmas.{met_is, met_within, none_taken}
 use Rattle.pd_shrink.proofs.PlaceLemmas.{below_stays}
-use Rattle.pd_laid.proofs.GatherLemmas.{all_first, all_last}
+use Rattle.pd_laid.proofs.GatherLemmas.{all_last}
 
 -- the first mappings of a run, where they were moved
 abbrev pub moved_first : List Move → Run → ℕ → List Mapping
@@ -67,7 +68,7 @@ abbrev pub no_run : Run
 no_run = record { virt = 0; target = 0; length = 0; time = 0 }
 
 -- a run more is taken of a device's
-pub takes_run : (moves : List Move) (rs before now new : List Run) (i : ℕ) (joining joining' : Joining) → i < length rs
+takes_run : (moves : List Move) (rs before now new : List Run) (i : ℕ) (joining joining' : Joining) → i < length rs
     → Takes (moved_first moves (get_or rs i no_run) (get_or rs i no_run).length) now new joining joining'
     → IsJoining before now joining (map (moved_mapping moves) (mappings_of_runs (take i rs)))
     → IsJoining before new joining' (map (moved_mapping moves) (mappings_of_runs (take (i + 1) rs)))
@@ -78,16 +79,21 @@ takes_run moves rs before now new i joining joining' within takes is =
     ∙ (ap (map (moved_mapping moves)) (runs_more (take i rs) r) ∙ map-append (moved_mapping moves) (mappings_of_runs (take i rs)) (mappings_of (spelled r)))))
     (takes before (map (moved_mapping moves) (mappings_of_runs (take i rs))) is)
 
--- all were taken
-pub has_all : (moves : List Move) (rs before new : List Run) (i : ℕ) → length rs ≤ i → HasRuns before new (map (moved_mapping moves) (mappings_of_runs (take i rs)))
-    → HasRuns before new (map (moved_mapping moves) (mappings_of_runs rs))
-has_all moves rs before new i all has = subst (λ (xs : List Run). HasRuns before new (map (moved_mapping moves) (mappings_of_runs xs))) (take_all i rs all) has
+-- where it is the next one, and where none is left
+module _ (moves : List Move) (rs before now : List Run) (i : ℕ) (joining : Joining) (is : IsJoining before now joining (map (moved_mapping moves) (mappings_of_runs (take i rs)))) where
+  pub takes_met : (r : Run) (rest new : List Run) (joining' : Joining) → drop i rs ≡ r ∷ rest → Takes (moved_first moves r r.length) now new joining joining'
+      → IsJoining before new joining' (map (moved_mapping moves) (mappings_of_runs (take (i + 1) rs)))
+  takes_met r rest new joining' met takes =
+      takes_run moves rs before now new i joining joining' (met_within rs i r rest met)
+      (subst (λ (x : Run). Takes (moved_first moves x x.length) now new joining joining') (sym (met_is rs i r rest met no_run)) takes) is
 
--- each run fits
-pub fits_at : (rs : List Run) (i : ℕ) → AllByRecursion FitsRun rs → i < length rs → FitsRun (get_or rs i no_run)
-fits_at [] i all within = absurd (omega arith)
-fits_at (r ∷ rs) zero all within = all.0
-fits_at (r ∷ rs) (suc i) all within = fits_at rs i all.1 (omega arith)
+  pub takes_no_run : drop i rs ≡ [] → IsJoining before now joining (map (moved_mapping moves) (mappings_of_runs (take (i + 1) rs)))
+  takes_no_run none = subst (λ (xs : List Run). IsJoining before now joining (map (moved_mapping moves) (mappings_of_runs xs))) (none_taken rs i none) is
+
+-- all were taken
+pub has_all : (moves : List Move) (rs before new : List Run) (i n : ℕ) → i ≡ n → HasRuns before new (map (moved_mapping moves) (mappings_of_runs (take i rs)))
+    → HasRuns before new (map (moved_mapping moves) (mappings_of_runs (take n rs)))
+has_all moves rs before new i n all has = subst (λ (k : ℕ). HasRuns before new (map (moved_mapping moves) (mappings_of_runs (take k rs)))) all has
 
 -- a device with its mappings
 abbrev device_with : SavedDevice → List Mapping → ThinDevice
@@ -102,7 +108,7 @@ device_with d ms = record {
 
 -- a device was added
 pub adds_moved : (moves : List Move) (device : SavedDevice) (mine : List Run) (old new : Moved) (runs : ℕ)
-    (has : HasRuns old.runs.items new.runs.items (map (moved_mapping moves) (mappings_of_runs mine))) → runs ≡ length has.given
+    (has : HasRuns old.runs new.runs (map (moved_mapping moves) (mappings_of_runs mine))) → runs ≡ length has.given
     → new.devices.items ≡ old.devices.items ++ record { id = device.id; details = device.details; runs = runs } ∷ []
     → AddsMoved moves device mine old new
 adds_moved moves device mine old new runs has number added = record {
@@ -117,10 +123,10 @@ adds_moved moves device mine old new runs has number added = record {
 
 -- what a loop over devices keeps: those that were moved and those that are left are all
 pub record MovesDevices (moves : List Move) (all_devices : List SavedDevice) (all_runs : List Run) (devices : List SavedDevice) (runs : List Run) (moved : Moved) : Type 0 where
-  pub same : map device_of_part (parts_of moved.devices.items moved.runs.items) ++ map (moved_device moves) (map device_of_part (parts_of devices runs))
+  pub same : map device_of_part (parts_of moved.devices.items moved.runs) ++ map (moved_device moves) (map device_of_part (parts_of devices runs))
       ≡ map (moved_device moves) (map device_of_part (parts_of all_devices all_runs))
-  pub joined : AllByRecursion IsJoined (parts_of moved.devices.items moved.runs.items)
-  pub number : runs_of_devices moved.devices.items ≡ length moved.runs.items
+  pub joined : AllByRecursion IsJoined (parts_of moved.devices.items moved.runs)
+  pub number : runs_of_devices moved.devices.items ≡ length moved.runs
   pub left : runs_of_devices devices ≡ length runs
   pub fits : AllByRecursion FitsRun runs
 
@@ -128,21 +134,16 @@ pub record MovesDevices (moves : List Move) (all_devices : List SavedDevice) (al
 abbrev pub no_device : SavedDevice
 no_device = record { id = 0; details = record { mapped = 0; transaction = 0; created = 0; snapped = 0 }; runs = 0 }
 
--- the next device has its runs
-pub first_left : (ds : List SavedDevice) (i n : ℕ) → i < length ds → runs_of_devices (drop i ds) ≡ n → (get_or ds i no_device).runs ≤ n
-first_left ds i n within left =
-    let there = ap runs_of_devices (drop-cons ds i no_device within) in
-    omega (arith, sum_by-cons (λ (d : SavedDevice). d.runs) (get_or ds i no_device) (drop (suc i) ds))
-
 module _ (n : ℕ) (runs : List Run) (all : AllByRecursion FitsRun runs) where
   both_fit : AllByRecursion FitsRun (take n runs ++ drop n runs)
   both_fit = subst (AllByRecursion FitsRun) (sym (take-append-drop n runs)) all
 
-  pub taken_fit : AllByRecursion FitsRun (take n runs)
-  taken_fit = all_first FitsRun (take n runs) (drop n runs) both_fit
-
   pub left_fit : AllByRecursion FitsRun (drop n runs)
   left_fit = all_last FitsRun (take n runs) (drop n runs) both_fit
+
+-- a run that is met fits
+pub fits_met : (rs : List Run) (i : ℕ) (r : Run) (rest : List Run) → AllByRecursion FitsRun rs → drop i rs ≡ r ∷ rest → FitsRun r
+fits_met rs i r rest all met = let fits = rw met at (left_fit i rs all) in fits.0
 
 -- the runs behind those of the first device are those of the others
 pub others : (d : SavedDevice) (ds : List SavedDevice) (runs : List Run) → runs_of_devices (d ∷ ds) ≡ length runs → runs_of_devices ds ≡ length (drop d.runs runs)
@@ -152,7 +153,7 @@ others d ds runs number = omega (arith, number, sum_by-cons (λ (d : SavedDevice
 module _ (moves : List Move) (all_devices : List SavedDevice) (all_runs : List Run) (d : SavedDevice) (ds : List SavedDevice) (runs : List Run) (old new : Moved)
     (is : MovesDevices moves all_devices all_runs (d ∷ ds) runs old) (adds : AddsMoved moves d (take d.runs runs) old new) where
   abbrev here : List Part
-  here = parts_of old.devices.items old.runs.items
+  here = parts_of old.devices.items old.runs
 
   abbrev made : Part
   made = part_of adds.made adds.given
@@ -160,11 +161,11 @@ module _ (moves : List Move) (all_devices : List SavedDevice) (all_runs : List R
   abbrev rest : List ThinDevice
   rest = map (moved_device moves) (map device_of_part (parts_of ds (drop d.runs runs)))
 
-  parts_are : parts_of new.devices.items new.runs.items ≡ here ++ made ∷ []
-  parts_are = rw (adds.devices_are, adds.runs_are) (parts_more old.devices.items adds.made old.runs.items adds.given is.number adds.number)
+  parts_are : parts_of new.devices.items new.runs ≡ here ++ made ∷ []
+  parts_are = rw (adds.devices_are, adds.runs_are) (parts_more old.devices.items adds.made old.runs adds.given is.number adds.number)
 
-  numbers : length (old.runs.items ++ adds.given) ≡ length old.runs.items + length adds.given
-      → runs_of_devices old.devices.items + runs_of_devices (adds.made ∷ []) ≡ length (old.runs.items ++ adds.given)
+  numbers : length (old.runs ++ adds.given) ≡ length old.runs + length adds.given
+      → runs_of_devices old.devices.items + runs_of_devices (adds.made ∷ []) ≡ length (old.runs ++ adds.given)
   numbers both = let before = is.number in let one = adds.number in omega arith
 
   moves_device : MovesDevices moves all_devices all_runs ds (drop d.runs runs) new
@@ -177,7 +178,7 @@ module _ (moves : List Move) (all_devices : List SavedDevice) (all_runs : List R
     joined = subst (AllByRecursion IsJoined) (sym parts_are) (all_append IsJoined here (made ∷ []) is.joined (adds.joined, tt));
     number =
         rw (adds.devices_are, adds.runs_are)
-        (sum_by-append (λ (e : SavedDevice). e.runs) old.devices.items (adds.made ∷ []) ∙ numbers (length-append old.runs.items adds.given));
+        (sum_by-append (λ (e : SavedDevice). e.runs) old.devices.items (adds.made ∷ []) ∙ numbers (length-append old.runs adds.given));
     left = others d ds runs is.left;
     fits = left_fit d.runs runs is.fits;
   }
@@ -199,7 +200,7 @@ pub moved_all : (moves : List Move) (all_devices : List SavedDevice) (all_runs :
 moved_all moves all_devices all_runs i runs moved none is =
     let same = rw none at is.same in
     record {
-      same = sym (append-nil (map device_of_part (parts_of moved.devices.items moved.runs.items))) ∙ same;
+      same = sym (append-nil (map device_of_part (parts_of moved.devices.items moved.runs))) ∙ same;
       joined = is.joined;
       number = is.number;
     }

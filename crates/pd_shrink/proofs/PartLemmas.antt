@@ -2,7 +2,7 @@
 use Rattle.std.proofs.Common.{◌≡◌, ℕ, suc, ◌+◌, ◌<◌, ◌≤◌, get_or, List, [], ◌∷◌, ◌++◌, length, map, take, drop, drop-cons, add-one, refl, ap, sym, subst, ◌∙◌, arith, append_assoc, length-drop}
 use Rattle.std.specs.List.{AllByRecursion}
 use Rattle.std.specs.Prelude.{sum_by}
-use Rattle.std.proofs.lemmas.List.{append-nil, drop-append-le, drop_all, length-append, length-take, map-append, nil_from_length, take-append-le, take_all}
+use Rattle.std.proofs.lemmas.List.{append-nil, drop-append-le, drop_all, length-append, map-append, nil_from_length, take-append-le, take_all}
 use Rattle.std.proofs.lemmas.List.Sums.{sum_by-append, sum_by-cons}
 use Rattle.pd_kinds.specs.Meaning.{Mapping}
 use Rattle.pd_answers.specs.MovedPool.{Move, moved_mapping}
@@ -13,10 +13,6 @@ use Rattle.pd_thin_meaning.specs.Joined.{spelled}
 use Rattle.pd_salvage.specs.Gather.{HasRuns, mappings_of_runs}
 use Rattle.pd_shrink.specs.Moving.{AddsPart, AreJoined, ArePartsMoved, FitsRun, moved_mappings, split_mappings, split_runs}
 use Rattle.pd_shrink.proofs.MovingLemmas.{left_fit}
-
--- a front of so many runs has so many
-pub front_number : (mine left : List Run) (n : ℕ) → mine ≡ take n left → n ≤ length left → length mine ≡ n
-front_number mine left n is few = rw is (omega (arith, length-take n left))
 
 -- what a loop over parts keeps: those that were moved and those that are left are all
 pub record MovesParts {T K : Type 0} (count : T → ℕ) (says : T → K) (moves : List Move) (all : List T) (all_runs : List Run) (parts : List T) (runs : List Run) (made : List T) (given : List Run) : Type 0 where
@@ -31,12 +27,6 @@ module _ {T K : Type 0} (count : T → ℕ) (says : T → K) where
   -- the runs behind those of the first part are those of the others
   pub parts_rest : (x : T) (xs : List T) (runs : List Run) → sum_by count (x ∷ xs) ≡ length runs → sum_by count xs ≡ length (drop (count x) runs)
   parts_rest x xs runs number = omega (arith, number, sum_by-cons count x xs, length-drop (count x) runs)
-
-  -- the next part has its runs
-  pub part_left : (xs : List T) (i n : ℕ) (d : T) → i < length xs → sum_by count (drop i xs) ≡ n → count (get_or xs i d) ≤ n
-  part_left xs i n d within left =
-      let there = ap (sum_by count) (drop-cons xs i d within) in
-      omega (arith, there, left, sum_by-cons count (get_or xs i d) (drop (suc i) xs))
 
   -- the runs by parts, with one part more
   split_more : (made : List T) (y : T) (given more : List Run) → sum_by count made ≡ length given → count y ≡ length more

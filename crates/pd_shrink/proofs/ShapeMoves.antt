@@ -105,22 +105,22 @@ module _ (saved : HeldShape) (sound : IsSavedShape saved) where
     module _ (old : SavedHead) (moved : MovedLeaves) (pieced : MovedPieces) (devices : List ShapedDevice) (head_is : old ≡ head_to saved.head end) (devices_are' : devices ≡ saved.devices)
         (leaves : AreLeavesMoved moves saved.leaves saved.leaf_runs moved) (pieces : ArePiecesMoved moves saved.pieces saved.runs pieced) where
       abbrev after : HeldShape
-      after = held old moved.leaves.items moved.runs.items devices pieced.pieces.items pieced.runs.items
+      after = held old moved.leaves.items moved.runs devices pieced.pieces.items pieced.runs
 
-      leaves_after : map mappings_of_runs (leaf_parts moved.leaves.items moved.runs.items) ≡ moved_mappings moves (map mappings_of_runs (leaf_parts saved.leaves saved.leaf_runs))
-      leaves_after = leaves_are moved.leaves.items moved.runs.items ∙ (leaves.moved ∙ ap (moved_mappings moves) (sym (leaves_are saved.leaves saved.leaf_runs)))
+      leaves_after : map mappings_of_runs (leaf_parts moved.leaves.items moved.runs) ≡ moved_mappings moves (map mappings_of_runs (leaf_parts saved.leaves saved.leaf_runs))
+      leaves_after = leaves_are moved.leaves.items moved.runs ∙ (leaves.moved ∙ ap (moved_mappings moves) (sym (leaves_are saved.leaves saved.leaf_runs)))
 
-      pieces_after : map piece_of_part (piece_parts pieced.pieces.items pieced.runs.items) ≡ map (moved_piece moves) (map piece_of_part (piece_parts saved.pieces saved.runs))
+      pieces_after : map piece_of_part (piece_parts pieced.pieces.items pieced.runs) ≡ map (moved_piece moves) (map piece_of_part (piece_parts saved.pieces saved.runs))
       pieces_after =
-          pieces_are pieced.pieces.items pieced.runs.items
+          pieces_are pieced.pieces.items pieced.runs
           ∙ (ap₂ pieces_by pieces.same pieces.moved
           ∙ (pieces_moved moves (map leaf_of_piece saved.pieces) (split_mappings runs_of_piece saved.pieces saved.runs) ∙ ap (map (moved_piece moves)) (sym (pieces_are saved.pieces saved.runs))))
 
-      devices_after : map device_of_part (device_parts devices pieced.pieces.items pieced.runs.items) ≡ map (moved_shape_device moves) (map device_of_part (device_parts saved.devices saved.pieces saved.runs))
+      devices_after : map device_of_part (device_parts devices pieced.pieces.items pieced.runs) ≡ map (moved_shape_device moves) (map device_of_part (device_parts saved.devices saved.pieces saved.runs))
       devices_after =
-          ap (λ (ds : List ShapedDevice). map device_of_part (device_parts ds pieced.pieces.items pieced.runs.items)) devices_are'
-          ∙ (ap (map device_of_part) (devices_are saved.devices pieced.pieces.items pieced.runs.items)
-          ∙ (devices_moved moves saved.devices (piece_parts saved.pieces saved.runs) (piece_parts pieced.pieces.items pieced.runs.items) pieces_after
+          ap (λ (ds : List ShapedDevice). map device_of_part (device_parts ds pieced.pieces.items pieced.runs)) devices_are'
+          ∙ (ap (map device_of_part) (devices_are saved.devices pieced.pieces.items pieced.runs)
+          ∙ (devices_moved moves saved.devices (piece_parts saved.pieces saved.runs) (piece_parts pieced.pieces.items pieced.runs) pieces_after
           ∙ ap (λ (parts : List SharedPart). map (moved_shape_device moves) (map device_of_part parts)) (sym (devices_are saved.devices saved.pieces saved.runs))))
 
       -- a shape of this head
@@ -138,7 +138,7 @@ module _ (saved : HeldShape) (sound : IsSavedShape saved) where
       pub shape_after : held_shape after ≡ moved_shape (held_shape saved) end moves
       unfolding held_shape moved_shape
       shape_after =
-          ap (λ (head : SavedHead). shape_with head (map mappings_of_runs (leaf_parts moved.leaves.items moved.runs.items)) (map device_of_part (device_parts devices pieced.pieces.items pieced.runs.items))) head_is
+          ap (λ (head : SavedHead). shape_with head (map mappings_of_runs (leaf_parts moved.leaves.items moved.runs)) (map device_of_part (device_parts devices pieced.pieces.items pieced.runs))) head_is
           ∙ ap₂ (shape_with (head_to saved.head end)) leaves_after devices_after
 
       pub shape_sound : ((w : ThinShape) (end : ℕ) (free : List ℕ) → IsLawfulShape w → IsMoving (pool_of w) end free → IsLawfulShape (moved_shape w end (moves_to (sources (pool_of w) end) free)))
@@ -148,18 +148,18 @@ module _ (saved : HeldShape) (sound : IsSavedShape saved) where
           let lawful = law w end are.free (record { shape = sound.shape; pool = sound.lawful }) are.moving in
           let here : IsLawfulShape (held_shape after) =
           subst IsLawfulShape (sym shape_after) (subst (λ (xs : List Move). IsLawfulShape (moved_shape w end xs)) (sym are.are) lawful) in
-          let counted : map entries_of_leaf moved.leaves.items ≡ sizes (split_mappings runs_of_leaf moved.leaves.items moved.runs.items) =
+          let counted : map entries_of_leaf moved.leaves.items ≡ sizes (split_mappings runs_of_leaf moved.leaves.items moved.runs) =
           leaves.same
           ∙ (leaves_count saved.leaves saved.leaf_runs sound.counted
           ∙ (sym (sizes_stay moves (split_mappings runs_of_leaf saved.leaves saved.leaf_runs)) ∙ ap sizes (sym leaves.moved))) in
           record {
             shape = here.shape;
             lawful = here.pool;
-            counted = leaves_counted moved.leaves.items moved.runs.items counted;
-            leaves_joined = leaves_joined moved.leaves.items moved.runs.items leaves.joined;
+            counted = leaves_counted moved.leaves.items moved.runs counted;
+            leaves_joined = leaves_joined moved.leaves.items moved.runs leaves.joined;
             joined =
-                subst (AllByRecursion IsPartJoined) (sym (devices_are devices pieced.pieces.items pieced.runs.items))
-                (devices_joined devices (piece_parts pieced.pieces.items pieced.runs.items) (pieces_joined pieced.pieces.items pieced.runs.items pieces.joined));
+                subst (AllByRecursion IsPartJoined) (sym (devices_are devices pieced.pieces.items pieced.runs))
+                (devices_joined devices (piece_parts pieced.pieces.items pieced.runs) (pieces_joined pieced.pieces.items pieced.runs pieces.joined));
             leaf_number = leaves.number;
             piece_number =
                 ap pieces_of devices_are'

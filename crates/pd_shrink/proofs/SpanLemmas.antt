@@ -1,5 +1,5 @@
 -- The data blocks that runs have past the end of a smaller pool, each once.
-use Rattle.std.proofs.Common.{◌≡◌, inl, inr, ℕ, zero, suc, ◌+◌, ◌-◌, ◌^◌, ◌<◌, ◌≤◌, min, max, Bool, true, false, cond, ◌&&◌, ◌||◌, eqb, leb, ltb, List, [], ◌∷◌, ◌++◌, length, get_or, take, drop, refl, sym, ap, ◌∙◌, add-one, append_assoc, drop-cons, length-drop, arith}
+use Rattle.std.proofs.Common.{◌≡◌, inl, inr, ℕ, zero, suc, ◌+◌, ◌-◌, ◌^◌, ◌<◌, ◌≤◌, min, max, Bool, true, false, cond, ◌&&◌, ◌||◌, eqb, leb, ltb, List, [], ◌∷◌, ◌++◌, length, get_or, take, drop, refl, sym, subst, ap, ◌∙◌, add-one, append_assoc, drop-cons, length-drop, arith}
 use Rattle.std.specs.List.{All, AllByRecursion, filter, list_any, range_with_len}
 use Rattle.std.specs.List.Sorted.{IsNonDecreasingBy, IsPermutation}
 use Rattle.std.proofs.lemmas.Bool.{and_from, and_left, and_right, cases_lt, le-leb, le-ltb, lt-leb, lt-ltb, or_from, or_left}
@@ -29,6 +29,7 @@ use Rattle.pd_shrink.specs.Kept.{IsSoundKept, kept_pool, leaf_runs_in, own_runs_
 use Rattle.pd_shrink.specs.Spans.{blocks_between, has_block, is_in_spans, span_between, spans_past, union_from}
 use Rattle.pd_shrink.specs.declared.sources.Span.{Span}
 use Rattle.pd_shrink.proofs.KeptLemmas.{lawful_kept}
+use Rattle.pd_shrink.proofs.MetLemmas.{met_is, met_within}
 use Rattle.pd_shrink.proofs.ToldLemmas.{told_names}
 
 -- a filter of a row of which none passes, and of one of which each does
@@ -227,13 +228,23 @@ own_runs_small kept sound =
     (all_last (IsWithin (kept_pool kept).data_blocks) (leaf_runs_in kept) (own_runs_in kept) (within_kept kept sound))
 
 -- one run more
-pub past_more : (end : ℕ) (runs : List Run) (i : ℕ) (d : Run) → i < length runs
+past_more : (end : ℕ) (runs : List Run) (i : ℕ) (d : Run) → i < length runs
     → spans_past end (take (i + 1) runs) ≡ spans_past end (take i runs) ++ span_between (max (get_or runs i d).target end) ((get_or runs i d).target + (get_or runs i d).length)
 past_more end runs i d within =
     let r = get_or runs i d in
     ap (spans_past end) (take_more runs i d within)
     ∙ (flat_map-append (λ (r : Run). span_between (max r.target end) (r.target + r.length)) (take i runs) (r ∷ [])
     ∙ ap (λ (spans : List Span). spans_past end (take i runs) ++ spans) (append-nil (span_between (max r.target end) (r.target + r.length))))
+
+-- it is the next one that is met
+module _ (runs : List Run) (i : ℕ) (r : Run) (rest : List Run) (met : drop i runs ≡ r ∷ rest) where
+  pub past_met : (end : ℕ) → spans_past end (take (i + 1) runs) ≡ spans_past end (take i runs) ++ span_between (max r.target end) (r.target + r.length)
+  past_met end =
+      past_more end runs i r (met_within runs i r rest met)
+      ∙ ap (λ (x : Run). spans_past end (take i runs) ++ span_between (max x.target end) (x.target + x.length)) (met_is runs i r rest met r)
+
+  pub met_small : All (λ (x : Run). x.target + x.length < 2 ^ 64) runs → r.target + r.length < 2 ^ 64
+  met_small small = subst (λ (x : Run). x.target + x.length < 2 ^ 64) (met_is runs i r rest met r) (small i r (met_within runs i r rest met))
 
 -- the blocks of one row more, where these are left
 pub union_more : (spans : List Span) (i least first next : ℕ) (d : Span) (old new : List ℕ) → i < length spans → first ≡ max (get_or spans i d).first least

@@ -45,16 +45,16 @@ pub record AddsMoved (moves : List Move) (device : SavedDevice) (runs : List Run
   pub made : SavedDevice
   pub given : List Run
   pub devices_are : new.devices.items ≡ old.devices.items ++ made ∷ []
-  pub runs_are : new.runs.items ≡ old.runs.items ++ given
+  pub runs_are : new.runs ≡ old.runs ++ given
   pub number : made.runs ≡ length given
   pub same : device_of_part (part_of made given) ≡ moved_device moves (device_of_part (part_of device runs))
   pub joined : IsJoined (part_of made given)
 
 -- the devices with their runs, as long as can be, whose data blocks were moved
 pub record AreMoved (moves : List Move) (devices : List SavedDevice) (runs : List Run) (moved : Moved) : Type 0 where
-  pub same : map device_of_part (parts_of moved.devices.items moved.runs.items) ≡ map (moved_device moves) (map device_of_part (parts_of devices runs))
-  pub joined : AllByRecursion IsJoined (parts_of moved.devices.items moved.runs.items)
-  pub number : runs_of_devices moved.devices.items ≡ length moved.runs.items
+  pub same : map device_of_part (parts_of moved.devices.items moved.runs) ≡ map (moved_device moves) (map device_of_part (parts_of devices runs))
+  pub joined : AllByRecursion IsJoined (parts_of moved.devices.items moved.runs)
+  pub number : runs_of_devices moved.devices.items ≡ length moved.runs
 
 -- the words of a superblock with so many data blocks
 abbrev pub head_to : SavedHead → ℕ → SavedHead
@@ -107,13 +107,13 @@ leaf_of_piece (Shared number) = Some number
 
 -- the shared leaves and the pieces of a shape, one of them or all, were moved
 abbrev pub AddsLeaf : List Move → SavedLeaf → List Run → MovedLeaves → MovedLeaves → Type 0
-AddsLeaf moves leaf runs old new = AddsPart runs_of_leaf entries_of_leaf moves leaf runs old.leaves.items old.runs.items new.leaves.items new.runs.items
+AddsLeaf moves leaf runs old new = AddsPart runs_of_leaf entries_of_leaf moves leaf runs old.leaves.items old.runs new.leaves.items new.runs
 
 abbrev pub AddsPiece : List Move → SavedPiece → List Run → MovedPieces → MovedPieces → Type 0
-AddsPiece moves piece runs old new = AddsPart runs_of_piece leaf_of_piece moves piece runs old.pieces.items old.runs.items new.pieces.items new.runs.items
+AddsPiece moves piece runs old new = AddsPart runs_of_piece leaf_of_piece moves piece runs old.pieces.items old.runs new.pieces.items new.runs
 
 abbrev pub AreLeavesMoved : List Move → List SavedLeaf → List Run → MovedLeaves → Type 0
-AreLeavesMoved moves leaves runs moved = ArePartsMoved runs_of_leaf entries_of_leaf moves leaves runs moved.leaves.items moved.runs.items
+AreLeavesMoved moves leaves runs moved = ArePartsMoved runs_of_leaf entries_of_leaf moves leaves runs moved.leaves.items moved.runs
 
 abbrev pub ArePiecesMoved : List Move → List SavedPiece → List Run → MovedPieces → Type 0
-ArePiecesMoved moves pieces runs moved = ArePartsMoved runs_of_piece leaf_of_piece moves pieces runs moved.pieces.items moved.runs.items
+ArePiecesMoved moves pieces runs moved = ArePartsMoved runs_of_piece leaf_of_piece moves pieces runs moved.pieces.items moved.runs

@@ -5,7 +5,7 @@ ghost use Rattle.pd_image.specs.Device.{IsAttached, IsWritable, KeepsPlace, Only
 ghost use Rattle.pd_answers.specs.MovedShape.{saved_whole};
 ghost use Rattle.pd_restoring.specs.Made.{CountsMade, IsMade, ending_of};
 ghost use Rattle.pd_shrink.specs.Failing.{CountsMeta};
-ghost use Rattle.pd_shrink.specs.Kept.{IsKept, IsSoundKept, head_in, kept_content, kept_making, kept_pool, leaf_runs_in, moved_in, own_runs_in, saved_in, shared_of};
+ghost use Rattle.pd_shrink.specs.Kept.{IsKept, IsSoundKept, head_in, kept_content, kept_making, kept_pool, moved_in, own_runs_in, saved_in, shared_of};
 ghost use Rattle.pd_shrink.specs.Making.{FitsDevice, IsSoundWith};
 ghost use Rattle.pd_shrink.specs.Moves.{moves_in};
 ghost use Rattle.pd_shrink.specs.Moving.{AreMovesOf};
@@ -18,10 +18,10 @@ use pd_image::Device;
 use pd_kinds::ThinSuper;
 use pd_laid::sound_pool_is_saved;
 use pd_restore::{MadeFault, need_of_saved, need_of_shape, restore_made, restore_shape};
+use pd_runs::PackedRuns;
 use pd_salvage::{Salvage, SalvageFault, SavedHead, SavedShape, salvage};
 use pd_salvage_shapes::salvage_shape;
 use pd_saved_shapes::sound_pools_save_their_shape;
-use pd_thin_meaning::Run;
 use std::alloc::{AllocError, Global};
 
 /// A pool as it is held in memory, without its shared leaves or with them.
@@ -45,18 +45,8 @@ pub(crate) fn head_of(kept: &Kept) -> &SavedHead
     }
 }
 
-/// The runs of its shared leaves.
-pub(crate) fn leaf_runs_of(kept: &Kept) -> &[Run]
-    ensures { result.now ≡ leaf_runs_in kept.now }
-{
-    match kept {
-        Kept::Pool(_) => &[],
-        Kept::Shape(saved) => saved.leaf_runs(),
-    }
-}
-
 /// The runs of its devices' own.
-pub(crate) fn own_runs_of(kept: &Kept) -> &[Run]
+pub(crate) fn own_runs_of(kept: &Kept) -> &PackedRuns
     ensures { result.now ≡ own_runs_in kept.now }
 {
     match kept {

@@ -1,10 +1,11 @@
 //! The pool in memory whose data blocks were moved.
 
-ghost use Rattle.std.specs.Prelude.{◌≡◌, ◌-◌, ◌^◌, min, length, map, IfOk, OnOk};
+ghost use Rattle.std.specs.Prelude.{◌≡◌, ◌-◌, ◌^◌, min, length, map, take, drop, IfOk, OnOk};
 ghost use Rattle.std.specs.List.{AllByRecursion};
 ghost use Rattle.pd_answers.specs.MovedPool.{moved_mapping, moved_pool};
 ghost use Rattle.pd_spells.specs.ThinText.{mappings_of};
 ghost use Rattle.pd_thin_meaning.specs.Joined.{spelled};
+ghost use Rattle.pd_runs.specs.Places.{runs_from};
 ghost use Rattle.pd_salvage.specs.Gather.{mappings_of_runs, HasRuns, Takes};
 ghost use Rattle.pd_salvage.specs.Saved.{pool_of, runs_of_devices};
 ghost use Rattle.pd_shrink.specs.Moves.{moves_in};
@@ -13,6 +14,7 @@ ghost use Rattle.pd_shrink.specs.Moving.{AddsMoved, AreMoved, AreMovesFrom, AreM
 use crate::moves::MovedBlock;
 use crate::places::place_of;
 use pd_changed::moved_pool_is_lawful;
+use pd_runs::{PackedRuns, RunPlace};
 use pd_salvage::{Joining, Salvage, SavedDevice, SavedHead};
 use pd_thin_meaning::Run;
 use std::alloc::{AllocError, Global};
@@ -21,13 +23,13 @@ use std::alloc::{AllocError, Global};
 #[derive(Drop)]
 struct Moved {
     devices: Vec<SavedDevice>,
-    runs: Vec<Run>,
+    runs: PackedRuns,
 }
 
 /// The pool with its data blocks moved: so many data blocks, and each mapping names its block's new place. Its runs
 /// are as long as can be.
 ///
-/// It takes 40 bytes a device and 32 a run.
+/// It takes 40 bytes a device, and for a run some 4 and at most 35.
 pub fn move_pool(
     alloc: Global,
     saved: &Salvage,
@@ -61,7 +63,7 @@ pub(crate) fn head_to(old: &SavedHead, end: u64) -> SavedHead
 fn move_devices(
     alloc: Global,
     devices: &[SavedDevice],
-    runs: &[Run],
+    runs: &PackedRuns,
     end: u64,
     moves: &[MovedBlock],
 ) -> Result<Moved, AllocError>
@@ -72,31 +74,31 @@ fn move_devices(
 {
     let mut moved = Moved {
         devices: Vec::new(alloc),
-        runs: Vec::new(alloc),
+        runs: PackedRuns::new(alloc),
     };
-    let mut left = runs;
+    let mut place = runs.first();
     for device in devices {
-        let (mine, others) = left.split_at(device.runs);
-        move_device(device, mine, end, moves, &mut moved)?;
-        left = others;
+        move_device(device, runs, &mut place, end, moves, &mut moved)?;
     }
     Ok(moved)
 }
 
-/// Adds a device with its runs, whose data blocks are moved.
+/// Adds a device with its runs, whose data blocks are moved: those from the place on, which goes on behind them.
 fn move_device(
     device: &SavedDevice,
-    mine: &[Run],
+    all: &PackedRuns,
+    place: &mut RunPlace,
     end: u64,
     moves: &[MovedBlock],
     moved: &mut Moved,
 ) -> Result<(), AllocError>
     requires ordered { AreMovesFrom (2 ^ 40) end (moves_in moves.now) }
-    requires fits { AllByRecursion FitsRun mine.now }
-    ensures { OnOk result (AddsMoved (moves_in moves.now) device.now mine.now moved.old moved.new) }
+    requires fits { AllByRecursion FitsRun (runs_from all.now place.old) }
+    ensures moved { OnOk result (AddsMoved (moves_in moves.now) device.now (take device.now.runs (runs_from all.now place.old)) moved.old moved.new) }
+    ensures behind { OnOk result (runs_from all.now place.new ≡ drop device.now.runs (runs_from all.now place.old)) }
 {
     let first = moved.runs.len();
-    move_runs(mine, end, moves, &mut moved.runs)?;
+    move_runs(all, place, device.runs, end, moves, &mut moved.runs)?;
     let runs = moved.runs.len() - first;
     moved.devices.push(SavedDevice {
         id: device.id,
@@ -106,20 +108,26 @@ fn move_device(
     Ok(())
 }
 
-/// Adds runs whose data blocks are moved, as long as can be among themselves.
+/// Adds so many runs from the place on, which goes on behind them. Their data blocks are moved, and they are as long as can
+/// be among themselves.
 pub(crate) fn move_runs(
-    mine: &[Run],
+    all: &PackedRuns,
+    place: &mut RunPlace,
+    number: usize,
     end: u64,
     moves: &[MovedBlock],
-    runs: &mut Vec<Run>,
+    runs: &mut PackedRuns,
 ) -> Result<(), AllocError>
     requires ordered { AreMovesFrom (2 ^ 40) end (moves_in moves.now) }
-    requires fits { AllByRecursion FitsRun mine.now }
-    ensures { OnOk result (HasRuns runs.old.items runs.new.items (map (moved_mapping (moves_in moves.now)) (mappings_of_runs mine.now))) }
+    requires fits { AllByRecursion FitsRun (runs_from all.now place.old) }
+    ensures moved { OnOk result (HasRuns runs.old runs.new (map (moved_mapping (moves_in moves.now)) (mappings_of_runs (take number (runs_from all.now place.old))))) }
+    ensures behind { OnOk result (runs_from all.now place.new ≡ drop number (runs_from all.now place.old)) }
 {
     let mut joining = Joining { begun: None };
-    for run in mine {
-        move_run(run, end, moves, &mut joining, runs)?;
+    for _ in 0..number {
+        if let Some(run) = all.next(place) {
+            move_run(&run, end, moves, &mut joining, runs)?;
+        }
     }
     joining.end(runs)?;
     Ok(())
@@ -131,11 +139,11 @@ fn move_run(
     end: u64,
     moves: &[MovedBlock],
     joining: &mut Joining,
-    runs: &mut Vec<Run>,
+    runs: &mut PackedRuns,
 ) -> Result<(), AllocError>
     requires ordered { AreMovesFrom (2 ^ 40) end (moves_in moves.now) }
     requires fits { FitsRun run.now }
-    ensures { OnOk result (Takes (map (moved_mapping (moves_in moves.now)) (mappings_of (spelled run.now))) runs.old.items runs.new.items joining.old joining.new) }
+    ensures { OnOk result (Takes (map (moved_mapping (moves_in moves.now)) (mappings_of (spelled run.now))) runs.old runs.new joining.old joining.new) }
 {
     let stays = staying(run, end);
     if stays > 0 {

@@ -1,9 +1,10 @@
 //! The pool in memory whose data blocks were moved, with the leaves that its devices share.
 
-ghost use Rattle.std.specs.Prelude.{◌≡◌, ◌^◌, ℕ, length, sum_by, IfOk, OnOk};
+ghost use Rattle.std.specs.Prelude.{◌≡◌, ◌^◌, ℕ, length, take, drop, sum_by, IfOk, OnOk};
 ghost use Rattle.std.specs.List.{AllByRecursion};
 ghost use Rattle.pd_laid.specs.Shape.{pool_of};
 ghost use Rattle.pd_answers.specs.MovedShape.{moved_shape};
+ghost use Rattle.pd_runs.specs.Places.{runs_from};
 ghost use Rattle.pd_salvage.specs.declared.saved_shape.SavedPiece.TheVariants.{Own};
 ghost use Rattle.pd_salvage.specs.SavedShape.{held_shape, runs_of_piece, runs_of_pieces};
 ghost use Rattle.pd_shrink.specs.Moves.{moves_in};
@@ -12,29 +13,29 @@ ghost use Rattle.pd_shrink.specs.Moving.{AddsLeaf, AddsPiece, AreLeavesMoved, Ar
 use crate::moves::MovedBlock;
 use crate::moving::{head_to, move_runs};
 use pd_changed::{moved_shapes_are_lawful, moved_shapes_mean_moved_pools};
+use pd_runs::{PackedRuns, RunPlace};
 use pd_salvage::{SavedLeaf, SavedPiece, SavedShape};
-use pd_thin_meaning::Run;
 use std::alloc::{AllocError, Global};
 
 /// Shared leaves and the runs of all of them, whose data blocks were moved.
 #[derive(Drop)]
 struct MovedLeaves {
     leaves: Vec<SavedLeaf>,
-    runs: Vec<Run>,
+    runs: PackedRuns,
 }
 
 /// Pieces and the runs of all own ones, whose data blocks were moved.
 #[derive(Drop)]
 struct MovedPieces {
     pieces: Vec<SavedPiece>,
-    runs: Vec<Run>,
+    runs: PackedRuns,
 }
 
 /// The pool with its data blocks moved: so many data blocks, and each leaf and each piece of a device's own names its
 /// blocks' new places. Its runs are as long as can be within a leaf or a piece.
 ///
-/// It takes 16 bytes a leaf, 8 a piece, 48 a device and 32 a run. A piece that would have 2^32 runs or more counts as want of
-/// memory.
+/// It takes 16 bytes a leaf, 8 a piece, 48 a device, and for a run some 4 and at most 35. A piece that would have 2^32 runs or
+/// more counts as want of memory.
 pub fn move_shape(
     alloc: Global,
     saved: &SavedShape,
@@ -62,7 +63,7 @@ pub fn move_shape(
 fn move_leaves(
     alloc: Global,
     leaves: &[SavedLeaf],
-    runs: &[Run],
+    runs: &PackedRuns,
     end: u64,
     moves: &[MovedBlock],
 ) -> Result<MovedLeaves, AllocError>
@@ -73,31 +74,31 @@ fn move_leaves(
 {
     let mut moved = MovedLeaves {
         leaves: Vec::new(alloc),
-        runs: Vec::new(alloc),
+        runs: PackedRuns::new(alloc),
     };
-    let mut left = runs;
+    let mut place = runs.first();
     for leaf in leaves {
-        let (mine, others) = left.split_at(leaf.runs);
-        move_leaf(leaf, mine, end, moves, &mut moved)?;
-        left = others;
+        move_leaf(leaf, runs, &mut place, end, moves, &mut moved)?;
     }
     Ok(moved)
 }
 
-/// Adds a shared leaf with its runs, whose data blocks are moved.
+/// Adds a shared leaf with its runs, whose data blocks are moved: those from the place on, which goes on behind them.
 fn move_leaf(
     leaf: &SavedLeaf,
-    mine: &[Run],
+    all: &PackedRuns,
+    place: &mut RunPlace,
     end: u64,
     moves: &[MovedBlock],
     moved: &mut MovedLeaves,
 ) -> Result<(), AllocError>
     requires ordered { AreMovesFrom (2 ^ 40) end (moves_in moves.now) }
-    requires fits { AllByRecursion FitsRun mine.now }
-    ensures { OnOk result (AddsLeaf (moves_in moves.now) leaf.now mine.now moved.old moved.new) }
+    requires fits { AllByRecursion FitsRun (runs_from all.now place.old) }
+    ensures moved { OnOk result (AddsLeaf (moves_in moves.now) leaf.now (take leaf.now.runs (runs_from all.now place.old)) moved.old moved.new) }
+    ensures behind { OnOk result (runs_from all.now place.new ≡ drop leaf.now.runs (runs_from all.now place.old)) }
 {
     let first = moved.runs.len();
-    move_runs(mine, end, moves, &mut moved.runs)?;
+    move_runs(all, place, leaf.runs, end, moves, &mut moved.runs)?;
     let runs = moved.runs.len() - first;
     moved.leaves.push(SavedLeaf {
         entries: leaf.entries,
@@ -110,7 +111,7 @@ fn move_leaf(
 fn move_pieces(
     alloc: Global,
     pieces: &[SavedPiece],
-    runs: &[Run],
+    runs: &PackedRuns,
     end: u64,
     moves: &[MovedBlock],
 ) -> Result<MovedPieces, AllocError>
@@ -121,42 +122,32 @@ fn move_pieces(
 {
     let mut moved = MovedPieces {
         pieces: Vec::new(alloc),
-        runs: Vec::new(alloc),
+        runs: PackedRuns::new(alloc),
     };
-    let mut left = runs;
+    let mut place = runs.first();
     for piece in pieces {
-        let (mine, others) = left.split_at(number_of_runs(piece));
-        move_piece(piece, mine, end, moves, &mut moved)?;
-        left = others;
+        move_piece(piece, runs, &mut place, end, moves, &mut moved)?;
     }
     Ok(moved)
 }
 
-/// How many runs a piece has.
-fn number_of_runs(piece: &SavedPiece) -> usize
-    ensures { result ≡ runs_of_piece piece.now }
-{
-    match piece {
-        SavedPiece::Own(runs) => *runs as usize,
-        SavedPiece::Shared(_) => 0,
-    }
-}
-
-/// Adds a piece with its runs, whose data blocks are moved; a use of a shared leaf has none, and stays.
+/// Adds a piece with its runs, whose data blocks are moved: those from the place on, which goes on behind them. A use of a
+/// shared leaf has none, and stays.
 fn move_piece(
     piece: &SavedPiece,
-    mine: &[Run],
+    all: &PackedRuns,
+    place: &mut RunPlace,
     end: u64,
     moves: &[MovedBlock],
     moved: &mut MovedPieces,
 ) -> Result<(), AllocError>
     requires ordered { AreMovesFrom (2 ^ 40) end (moves_in moves.now) }
-    requires number { length mine.now ≡ runs_of_piece piece.now }
-    requires fits { AllByRecursion FitsRun mine.now }
-    ensures { OnOk result (AddsPiece (moves_in moves.now) piece.now mine.now moved.old moved.new) }
+    requires fits { AllByRecursion FitsRun (runs_from all.now place.old) }
+    ensures moved { OnOk result (AddsPiece (moves_in moves.now) piece.now (take (runs_of_piece piece.now) (runs_from all.now place.old)) moved.old moved.new) }
+    ensures behind { OnOk result (runs_from all.now place.new ≡ drop (runs_of_piece piece.now) (runs_from all.now place.old)) }
 {
     match piece {
-        SavedPiece::Own(_) => move_own(mine, end, moves, moved),
+        SavedPiece::Own(number) => move_own(all, place, *number as usize, end, moves, moved),
         SavedPiece::Shared(number) => {
             moved.pieces.push(SavedPiece::Shared(*number))?;
             Ok(())
@@ -164,19 +155,22 @@ fn move_piece(
     }
 }
 
-/// Adds a piece of a device's own, whose data blocks are moved.
+/// Adds a piece of a device's own with so many runs, whose data blocks are moved.
 fn move_own(
-    mine: &[Run],
+    all: &PackedRuns,
+    place: &mut RunPlace,
+    number: usize,
     end: u64,
     moves: &[MovedBlock],
     moved: &mut MovedPieces,
 ) -> Result<(), AllocError>
     requires ordered { AreMovesFrom (2 ^ 40) end (moves_in moves.now) }
-    requires fits { AllByRecursion FitsRun mine.now }
-    ensures { OnOk result ((runs : ℕ) → AddsPiece (moves_in moves.now) (Own runs) mine.now moved.old moved.new) }
+    requires fits { AllByRecursion FitsRun (runs_from all.now place.old) }
+    ensures moved { OnOk result ((runs : ℕ) → AddsPiece (moves_in moves.now) (Own runs) (take number (runs_from all.now place.old)) moved.old moved.new) }
+    ensures behind { OnOk result (runs_from all.now place.new ≡ drop number (runs_from all.now place.old)) }
 {
     let first = moved.runs.len();
-    move_runs(mine, end, moves, &mut moved.runs)?;
+    move_runs(all, place, number, end, moves, &mut moved.runs)?;
     let runs = match u32::try_from(moved.runs.len() - first) {
         Ok(runs) => runs,
         Err(_) => return Err(AllocError),

@@ -4,11 +4,11 @@ ghost use Rattle.std.specs.Prelude.{◌≡◌, ◌+◌, ◌^◌, ◌<◌, ◌++�
 ghost use Rattle.std.specs.List.Sorted.{IsNonDecreasingBy, IsPermutation};
 ghost use Rattle.pd_answers.specs.MovedPool.{sources};
 ghost use Rattle.pd_thin_meaning.specs.declared.joined.Run.{Run as SavedRun};
-ghost use Rattle.pd_shrink.specs.Kept.{kept_pool};
+ghost use Rattle.pd_shrink.specs.Kept.{kept_pool, leaf_runs_in};
 ghost use Rattle.pd_shrink.specs.Spans.{blocks_between, span_between, spans_past, union_from};
 
-use crate::kept::{Kept, head_of, leaf_runs_of, own_runs_of};
-use pd_thin_meaning::Run;
+use crate::kept::{Kept, head_of, own_runs_of};
+use pd_runs::PackedRuns;
 use std::alloc::{AllocError, Global};
 
 /// Data blocks in a row.
@@ -30,20 +30,34 @@ pub(crate) fn find_sources(alloc: Global, kept: &Kept, end: u64) -> Result<Vec<u
     // What is held is a lawful pool, so each run ends within it.
     let _head = head_of(kept);
     let mut spans = Vec::new(alloc);
-    add_spans(&mut spans, leaf_runs_of(kept), end)?;
+    add_leaf_spans(&mut spans, kept, end)?;
     add_spans(&mut spans, own_runs_of(kept), end)?;
     sort_spans(&mut spans);
     blocks_of(alloc, &spans)
 }
 
+/// Adds what the runs of the shared leaves have past the end.
+fn add_leaf_spans(spans: &mut Vec<Span>, kept: &Kept, end: u64) -> Result<(), AllocError>
+    requires { All (λ (r : SavedRun). r.target + r.length < 2 ^ 64) (leaf_runs_in kept.now) }
+    ensures { OnOk result (spans.new.items ≡ spans.old.items ++ spans_past end (leaf_runs_in kept.now)) }
+{
+    match kept {
+        Kept::Pool(_) => Ok(()),
+        Kept::Shape(saved) => add_spans(spans, saved.leaf_runs(), end),
+    }
+}
+
 /// Adds what the runs have past the end.
-fn add_spans(spans: &mut Vec<Span>, runs: &[Run], end: u64) -> Result<(), AllocError>
+fn add_spans(spans: &mut Vec<Span>, runs: &PackedRuns, end: u64) -> Result<(), AllocError>
     requires { All (λ (r : SavedRun). r.target + r.length < 2 ^ 64) runs.now }
     ensures { OnOk result (spans.new.items ≡ spans.old.items ++ spans_past end runs.now) }
 {
-    for run in runs {
-        let stop = run.target + run.length;
-        add_span(spans, run.target.max(end), stop)?;
+    let mut place = runs.first();
+    for _ in 0..runs.len() {
+        if let Some(run) = runs.next(&mut place) {
+            let stop = run.target + run.length;
+            add_span(spans, run.target.max(end), stop)?;
+        }
     }
     Ok(())
 }

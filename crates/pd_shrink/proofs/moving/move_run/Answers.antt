@@ -11,7 +11,7 @@ place_of-requires-clause-ordered c = from_lower (2 ^ 40) 0 c.args.end (moves_in 
 
 pub loop-i-init : goal.loop-i-init
 loop-i-init c =
-    let old = c.args.runs.now.items in
+    let old = c.args.runs.now in
     let first = c.args.joining.now in
     let stays = c.staying-stays.result in
     let is = c.staying-stays.ensures in
@@ -21,7 +21,7 @@ loop-i-init c =
           (record {
             most = omega (arith, is);
             takes =
-                takes_staying (moves_in c.args.moves.now) c.args.run.now old w.take.new.runs.items old first w.take.new.self first (2 ^ 40) c.args.end stays
+                takes_staying (moves_in c.args.moves.now) c.args.run.now old w.take.new.runs old first w.take.new.self first (2 ^ 40) c.args.end stays
                 c.requires.ordered (omega (arith, is)) w.in_ok-take.ensures;
           })
       | else-stays-gt0 w ↦
@@ -36,12 +36,12 @@ pub loop-i-preserved : goal.loop-i-preserved
 loop-i-preserved c = record {
   most = omega (arith, c.loop-i-test.true);
   takes =
-      takes_more (moves_in c.args.moves.now) c.args.run.now c.args.runs.now.items c.loop-i.runs.items c.take-in-loop-i.new.runs.items c.args.joining.now c.loop-i.joining c.take-in-loop-i.new.self
+      takes_more (moves_in c.args.moves.now) c.args.run.now c.args.runs.now c.loop-i.runs c.take-in-loop-i.new.runs c.args.joining.now c.loop-i.joining c.take-in-loop-i.new.self
       c.loop-i.i c.place_of.result c.place_of.ensures.place c.loop-i.invariant.takes c.in_ok-take-2.ensures;
 }
 
 pub returns : goal.returns
 returns c =
     let all : c.loop-i.i ≡ c.args.run.now.length = omega (arith, c.loop-i-test.false, c.loop-i.invariant.most) in
-    subst (λ (n : ℕ). Takes (moved_first (moves_in c.args.moves.now) c.args.run.now n) c.args.runs.now.items c.loop-i.runs.items c.args.joining.now c.loop-i.joining) all
+    subst (λ (n : ℕ). Takes (moved_first (moves_in c.args.moves.now) c.args.run.now n) c.args.runs.now c.loop-i.runs c.args.joining.now c.loop-i.joining) all
     c.loop-i.invariant.takes

@@ -8,5 +8,5 @@ use Rattle.pd_salvage.specs.Gather.{Takes}
 abbrev pub invariant-loop-i : goal.invariant-loop-i
 invariant-loop-i l = record {
   most : l.i ≤ l.run.length;
-  takes : Takes (moved_first (moves_in l.moves) l.run l.i) l.fn.runs.items l.runs.items l.fn.joining l.joining;
+  takes : Takes (moved_first (moves_in l.moves) l.run l.i) l.fn.runs l.runs l.fn.joining l.joining;
 }

@@ -1,16 +1,33 @@
+use Rattle.std.proofs.Common.{sym, ◌∙◌, arith}
+use Rattle.pd_runs.specs.Places.{runs_from}
 use Rattle.pd_shrink.specs.Moves.{moves_in}
-use Rattle.pd_shrink.proofs.MovingLemmas.{fits_at, has_all, takes_run}
+use Rattle.pd_shrink.proofs.MetLemmas.{met_behind, none_behind}
+use Rattle.pd_shrink.proofs.MovingLemmas.{takes_met, takes_no_run}
 use Rattle.pd_shrink.proofs.moving.move_runs.Goals as goal
+use Rattle.pd_shrink.proofs.moving.move_runs.Goals.{in-Some+in_ok-move_run, in_default}
 
-pub move_run-requires-clause-fits : goal.move_run-requires-clause-fits
-move_run-requires-clause-fits c = fits_at c.args.mine.now c.loop-run.run-index c.requires.fits c.loop-run-test.true
-
-pub loop-run-preserved : goal.loop-run-preserved
-loop-run-preserved c =
-    takes_run (moves_in c.args.moves.now) c.args.mine.now c.args.runs.now.items c.loop-run.runs.items c.move_run.new.runs.items c.loop-run.run-index c.loop-run.joining c.move_run.new.joining
-    c.loop-run-test.true c.in_ok-move_run.ensures c.loop-run.invariant
-
-pub returns : goal.returns
-returns c =
-    has_all (moves_in c.args.moves.now) c.args.mine.now c.args.runs.now.items c.end.new.runs.items c.loop-run.run-index c.loop-run-test.false
-    (c.in_ok-end.ensures c.args.runs.now.items _ c.loop-run.invariant)
+pub loop-preserved : goal.loop-preserved
+loop-preserved c =
+    let all = runs_from c.args.all.now c.args.place.now in
+    let i = c.loop.counter in
+    let before = c.loop.invariant in
+    elim c.match-next.branch [
+      | in-Some+in_ok-move_run w ↦
+          let met = sym before.behind ∙ w.in-Some.ensures in
+          rw (w.joining-is, w.runs-is)
+          (record {
+            most = omega (arith, c.loop-test.true);
+            joining =
+                takes_met (moves_in c.args.moves.now) all c.args.runs.now c.loop.runs i c.loop.joining before.joining w.in-Some.run' (runs_from c.args.all.now c.next.new.place)
+                w.move_run.new.runs w.move_run.new.joining met w.in_ok-move_run.ensures;
+            behind = met_behind all i w.in-Some.run' (runs_from c.args.all.now c.next.new.place) met;
+          })
+      | in_default w ↦
+          let none = sym before.behind ∙ w.in_default.ensures.0 in
+          rw (w.joining-is, w.runs-is)
+          (record {
+            most = omega (arith, c.loop-test.true);
+            joining = takes_no_run (moves_in c.args.moves.now) all c.args.runs.now c.loop.runs i c.loop.joining before.joining none;
+            behind = rw w.in_default.ensures.1 (w.in_default.ensures.0 ∙ none_behind all i none);
+          })
+    ]

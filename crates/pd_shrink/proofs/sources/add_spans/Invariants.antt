@@ -1,6 +1,11 @@
-use Rattle.std.proofs.Common.{◌≡◌, ◌++◌, take}
+use Rattle.std.proofs.Common.{◌≡◌, ◌≤◌, ◌++◌, length, take, drop}
+use Rattle.pd_runs.specs.Places.{runs_from}
 use Rattle.pd_shrink.specs.Spans.{spans_past}
 use Rattle.pd_shrink.proofs.sources.add_spans.Given as goal
 
-abbrev pub invariant-loop-run : goal.invariant-loop-run
-invariant-loop-run l = l.spans.items ≡ l.initial.spans.items ++ spans_past l.end (take l.run-index l.runs)
+-- those of the runs so far were added, and the place is behind these
+abbrev pub invariant-loop : goal.invariant-loop
+invariant-loop l = record {
+  added : l.spans.items ≡ l.initial.spans.items ++ spans_past l.fn.end (take l.counter l.runs);
+  behind : runs_from l.runs l.place ≡ drop l.counter l.runs;
+}
