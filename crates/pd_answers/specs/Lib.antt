@@ -1,3 +1,4 @@
+pub mod KeptLines
 pub mod QueryLines
 pub mod Requests
 pub mod Tools

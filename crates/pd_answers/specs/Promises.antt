@@ -12,7 +12,7 @@ use Rattle.pd_kinds.specs.Report.{Reported, passes, report_of}
 use Rattle.pd_kinds.specs.Stages.{faults, CanWantMemory}
 use Rattle.pd_spells.specs.Lines.{reported_lines, usage_line}
 use Rattle.pd_answers.specs.Requests as request
-use Rattle.pd_answers.specs.QueryLines.{Asked, asked_kind, asked_text}
+use Rattle.pd_answers.specs.QueryLines.{Asked, asked_kind, asked_stage, asked_text}
 use Rattle.pd_answers.specs.Generated.{generated_text}
 use Rattle.pd_answers.specs.Flag.{LeavesCleared}
 use Rattle.pd_answers.specs.Answer.{Answer, reading, writing}
@@ -95,16 +95,17 @@ query_answer queried =
     then record { status = 0; out = queried.text; notes = [] }
     else record { status = 1; out = []; notes = reported_lines queried.report }
 
--- a query over the meaning of an image, which has one where there is no fault up to the stage Whole
+-- A query over an image, which answers where there is no fault up to its stage. Memory isn't wanting where the superblock is told and
+-- has a fault
 abbrev pub query : Asked → Option (List ℕ) → List ℕ → Terms
 query asked file path = record {
   uses = record unnamed { out = reading (unwrap_or file []); input = reading path };
   Finding = Queried;
   finds = λ before after queried. IfSome before.input.held (λ image.
-      (queried.report ≡ report_of (faults (asked_kind asked) Whole image)) × (queried.text ≡ asked_text asked image));
+      (queried.report ≡ report_of (faults (asked_kind asked) (asked_stage asked) image)) × (queried.text ≡ asked_text asked image));
   answer = query_answer;
   statuses = 0 ∷ 1 ∷ 5 ∷ 7 ∷ [];
-  memory = λ before. CanWantMemory (asked_kind asked) Whole before.input.held;
+  memory = λ before. IfSome before.input.held (λ image. faults (asked_kind asked) Super image ≡ []);
   silent = 1 ∷ [];
   spared = λ queried. queried.report.total ≢ 0;
   reads = any_reads;

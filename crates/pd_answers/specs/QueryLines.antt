@@ -4,12 +4,15 @@ use Rattle.std.specs.Prelude.{ℕ, ◌-◌, Bool, ◌==◌, ◌&&◌, ◌||◌, 
 use Rattle.std.specs.List.{flat_map, range_with_len, take_while}
 use Rattle.pd_kinds.specs.declared.kind.Kind.{Kind}
 use Rattle.pd_kinds.specs.declared.kind.Kind.TheVariants.{Thin, Cache, Era}
+use Rattle.pd_kinds.specs.declared.kind.Stage.{Stage}
+use Rattle.pd_kinds.specs.declared.kind.Stage.TheVariants.{Super, Whole}
 use Rattle.pd_kinds.specs.Meaning.{Mapping, ThinDevice, ThinPool, EraMeaning, thin_meaning, cache_meaning, era_meaning}
 use Rattle.pd_spells.specs.ThinText.{text_of_pool}
 use Rattle.pd_spells.specs.CacheText.{text_of_cache}
 use Rattle.pd_spells.specs.EraText.{text_of_era}
 use Rattle.pd_shapes.specs.SharedText.{text_of_shape}
 use Rattle.pd_shapes.specs.ImageShape.{image_shape}
+use Rattle.pd_answers.specs.KeptLines.{kept_text}
 
 -- the reverse map: the line of a mapping to a data block
 abbrev pub mapping_line : ℕ → ThinDevice → Mapping → List ℕ
@@ -86,6 +89,8 @@ pub data Asked : Type 0 where
   device_list : Asked
   -- the blocks of an era target that were written in an era or later
   since : ℕ → Asked
+  -- what a repair of a pool would keep
+  kept : Asked
 
 -- the kind of the image
 abbrev pub asked_kind : Asked → Kind
@@ -94,11 +99,22 @@ asked_kind shared_text = Thin
 asked_kind (reverse_map first end) = Thin
 asked_kind device_list = Thin
 asked_kind (since era) = Era
+asked_kind kept = Thin
 
--- what answers, where the image has no fault up to the stage Whole
+-- the stage up to which it must be without faults: what is kept is asked of a damaged image
+abbrev pub asked_stage : Asked → Stage
+asked_stage (text kind) = Whole
+asked_stage shared_text = Whole
+asked_stage (reverse_map first end) = Whole
+asked_stage device_list = Whole
+asked_stage (since era) = Whole
+asked_stage kept = Super
+
+-- what answers, where the image has no fault up to that stage
 abbrev pub asked_text : Asked → List (List ℕ) → List ℕ
 asked_text (text kind) image = image_text kind image
 asked_text shared_text image = text_of_shape (image_shape image)
 asked_text (reverse_map first end) image = rmap_lines first end (thin_meaning image)
 asked_text device_list image = device_list_lines (thin_meaning image)
 asked_text (since era) image = since_lines era (era_meaning image)
+asked_text kept image = kept_text image

@@ -25,6 +25,8 @@ pub data Value : Type 0 where
 pub data Need : Type 0 where
   -- once or not at all, without a value
   flag : Need
+  -- once, without a value
+  mark : Need
   -- once, with a value
   wanted : Value → Need
   -- once or not at all, with a value
@@ -78,6 +80,10 @@ input_word = named (codes "-i") (wanted device)
 abbrev pub output_word : Word
 output_word = named (codes "-o") (wanted device)
 
+-- that nothing is written, but told what would be
+abbrev pub dry_run_word : Word
+dry_run_word = named (codes "--dry-run") mark
+
 abbrev pub version_word : Word
 version_word = named (codes "--metadata-version") (optional version)
 
@@ -117,6 +123,7 @@ pub data Tool : Type 0 where
   dump_tool : Kind → Tool
   restore_tool : Kind → Tool
   repair_tool : Tool
+  dry_repair_tool : Tool
   cache_repair_tool : Tool
   rmap_tool : Tool
   device_list_tool : Tool
@@ -126,7 +133,7 @@ pub data Tool : Type 0 where
   writeback_tool : Tool
   shrink_tool : Tool
 
--- a tool, its name, and what can be given to it
+-- a form of a tool: the tool's name, and what can be given to it
 pub record ToolWords : Type 0 where
   pub name : List ℕ
   pub tool : Tool
@@ -144,6 +151,7 @@ tools =
     ∷ record { name = codes "cache_restore"; tool = restore_tool Cache; words = version_word ∷ text_word ∷ output_word ∷ [] }
     ∷ record { name = codes "era_restore"; tool = restore_tool Era; words = text_word ∷ output_word ∷ [] }
     ∷ record { name = codes "thin_repair"; tool = repair_tool; words = shared_word ∷ input_word ∷ output_word ∷ transaction_word ∷ block_size_word ∷ data_blocks_word ∷ [] }
+    ∷ record { name = codes "thin_repair"; tool = dry_repair_tool; words = dry_run_word ∷ shared_word ∷ input_word ∷ [] }
     ∷ record { name = codes "cache_repair"; tool = cache_repair_tool; words = version_word ∷ input_word ∷ output_word ∷ [] }
     ∷ record { name = codes "thin_rmap"; tool = rmap_tool; words = region_word ∷ file_word ∷ image_word ∷ [] }
     ∷ record { name = codes "thin_ls"; tool = device_list_tool; words = file_word ∷ image_word ∷ [] }

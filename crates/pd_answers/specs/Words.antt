@@ -1,6 +1,6 @@
 -- Trusted base.
 -- What the words of a command line ask for.
-use Rattle.std.specs.Prelude.{ℕ, Bool, true, false, ◌==◌, ◌^◌, nat_lt, not, ◌&&◌, if◌then◌else◌, List, [], ◌∷◌, length, drop, Option, Some, None, codes, decimal}
+use Rattle.std.specs.Prelude.{ℕ, Bool, true, false, ◌==◌, ◌^◌, nat_lt, not, ◌&&◌, if◌then◌else◌, List, [], ◌∷◌, length, drop, Option, Some, None, is_some, codes, decimal}
 use Rattle.std.specs.List.{list_any, list_all, filter_map, take_while}
 use Rattle.std.specs.Option.{option_and_then}
 use Rattle.std.specs.Str.{bytes_eq}
@@ -14,7 +14,7 @@ use Rattle.pd_kinds.specs.declared.kind.Passing.TheVariants.{Nothing, Leaks}
 use Rattle.pd_kinds.specs.declared.kind.Stage.{Stage}
 use Rattle.pd_kinds.specs.declared.kind.Stage.TheVariants.{Super, Walk, Order, Whole, Counts}
 use Rattle.pd_answers.specs.QueryLines as ask
-use Rattle.pd_answers.specs.Tools.{Need, Tool, ToolWords, Value, Word, check_tool, dump_tool, restore_tool, repair_tool, cache_repair_tool, rmap_tool, device_list_tool, since_tool, generate_tool, rehearse_tool, writeback_tool, shrink_tool, tools, image_word, until_word, passing_word, clear_word, file_word, shared_word, region_word, since_word, text_word, input_word, output_word, version_word, number_word, transaction_word, block_size_word, data_blocks_word, metadata_word, fast_word, origin_word, data_word, blocks_word}
+use Rattle.pd_answers.specs.Tools.{Need, Tool, ToolWords, Value, Word, check_tool, dump_tool, restore_tool, repair_tool, dry_repair_tool, cache_repair_tool, rmap_tool, device_list_tool, since_tool, generate_tool, rehearse_tool, writeback_tool, shrink_tool, tools, image_word, until_word, passing_word, clear_word, file_word, shared_word, region_word, since_word, text_word, input_word, output_word, dry_run_word, version_word, number_word, transaction_word, block_size_word, data_blocks_word, metadata_word, fast_word, origin_word, data_word, blocks_word}
 use Rattle.pd_answers.specs.Tools as table
 use Rattle.pd_answers.specs.Requests.{Request, check, passing_check, check_and_clear, query, restore, repair, search, repair_cache, generate, rehearse, writeback, shrink}
 
@@ -31,6 +31,7 @@ is_value (first ∷ rest) = not (first == 45)
 -- whether a word has no value
 abbrev pub is_flag_need : Need → Bool
 is_flag_need table.flag = true
+is_flag_need table.mark = true
 is_flag_need (table.wanted value) = false
 is_flag_need (table.optional value) = false
 is_flag_need (table.together value) = false
@@ -107,6 +108,12 @@ abbrev pub is_set : Given → Option Bool
 is_set never = Some false
 is_set (once value) = Some true
 is_set often = None
+
+-- whether it is, where it must be
+abbrev pub is_marked : Given → Option Bool
+is_marked never = None
+is_marked (once value) = Some true
+is_marked often = None
 
 -- the number that a word is in decimal, without leading zeros, if it is below the bound
 unfoldable pub number_below : ℕ → List ℕ → Option ℕ
@@ -194,12 +201,14 @@ meant_if_any value (Some word) = do
 -- what a word of the table says: whether a flag is set, or a value
 abbrev pub Told : Need → Type 0
 Told table.flag = Bool
+Told table.mark = Bool
 Told (table.wanted value) = Meant value
 Told (table.optional value) = Option (Meant value)
 Told (table.together value) = Option (Meant value)
 
 abbrev pub told_by : (need : Need) → Given → Option (Told need)
 told_by table.flag times = is_set times
+told_by table.mark times = is_marked times
 told_by (table.wanted value) times = single_value times >>= meant value
 told_by (table.optional value) times = at_most_one times >>= meant_if_any value
 told_by (table.together value) times = at_most_one times >>= meant_if_any value
@@ -207,14 +216,6 @@ told_by (table.together value) times = at_most_one times >>= meant_if_any value
 -- what the items say for it
 abbrev pub told : (word : Word) → List Item → Option (Told word.need)
 told word items = told_by word.need (given word.name items)
-
--- the tool of this name
-unfoldable pub tool_in : List ToolWords → List ℕ → Option ToolWords
-tool_in [] word = None
-tool_in (row ∷ others) word = if bytes_eq word row.name then Some row else tool_in others word
-
-abbrev pub tool_of : List ℕ → Option ToolWords
-tool_of word = tool_in tools word
 
 -- the kinds that have the flag "needs check"
 abbrev pub flagged_of : Kind → Option Flagged
@@ -275,6 +276,11 @@ request_of repair_tool items = do
   block_size ← told block_size_word items
   blocks ← told data_blocks_word items
   repair_with shared input output transaction block_size blocks
+request_of dry_repair_tool items = do
+  dry_run ← told dry_run_word items
+  shared ← told shared_word items
+  input ← told input_word items
+  Some (query ask.kept None input)
 request_of cache_repair_tool items = do
   version ← told version_word items
   input ← told input_word items
@@ -324,10 +330,22 @@ abbrev pub known : List Word → Option (List Item) → Option (List Item)
 known words None = None
 known words (Some items) = if list_all (is_known words) items then Some items else None
 
+-- whether a form has this name, and each of the items is given for one of its words
+abbrev pub takes : List ℕ → Option (List Item) → ToolWords → Bool
+takes word items row = bytes_eq word row.name && is_some (known row.words items)
+
+-- the first such form
+unfoldable pub tool_in : List ToolWords → List ℕ → Option (List Item) → Option ToolWords
+tool_in [] word items = None
+tool_in (row ∷ others) word items = if takes word items row then Some row else tool_in others word items
+
+abbrev pub tool_of : List ℕ → Option (List Item) → Option ToolWords
+tool_of word items = tool_in tools word items
+
 -- what the words ask for, without the program's own name
 unfoldable pub asked : List (List ℕ) → Option Request
 asked [] = None
 asked (word ∷ words) = do
-  row ← tool_of word
+  row ← tool_of word (items_of words)
   items ← known row.words (items_of words)
   request_of row.tool items
