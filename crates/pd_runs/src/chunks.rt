@@ -73,7 +73,8 @@ impl Chunks {
         add_run(&mut self.tail, before, run)
     }
 
-    /// Puts a run into a chunk of its own. Want of memory leaves all as before.
+    /// Puts a run into a new chunk. Want of memory leaves all as before.
+    #[inline(never)]
     fn begin(&mut self, before: Run, run: Run, count: usize) -> Result<(), AllocError>
         ensures begun { OnOk result (self.new ≡ begun self.old before run) }
         ensures counted { OnOk result (count + 1 ≤ 2 ^ 62 + length self.new.tail) }

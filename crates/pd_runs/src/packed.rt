@@ -17,8 +17,8 @@ const NO_RUN: Run = Run {
     time: 0,
 };
 
-/// Runs of mappings, held packed: 4 bytes a run where each begins close behind the one before, and at most 35. What is
-/// allocated is up to 64 KiB more, in chunks of 64 KiB from the first one that is full.
+/// Runs of mappings, held packed: 4 bytes a run where each begins close behind the one before, and at most 35. Up to 64 KiB
+/// more are allocated: a list grows as a `Vec` to 64 KiB, and from then on by chunks of 64 KiB, which never move.
 ///
 /// Any runs come back as they were put in, in that order: they need not ascend, nor mean anything.
 #[derive(Drop)]
