@@ -68,7 +68,7 @@ apart_first r m (s ∷ rs) apart = apart_if r m s (follows m s) rs apart
 
 -- a mapping that follows the begun run makes it longer
 pub taken_on : (begun : Begun) (virt : ℕ) (value : BlockTime) (rest : List Mapping) → is_followed_by begun virt value ≡ true
-    → begun_mappings (Some begun) ++ (mapping_of (virt, value) ∷ rest) ≡ begun_mappings (Some (record begun { more = virt - begun.virt })) ++ rest
+    → begun_mappings (Some begun) ++ (mapping_of (virt, value) ∷ rest) ≡ mappings_from begun.virt begun.target begun.time (suc (virt - begun.virt)) ++ rest
 taken_on begun virt value rest follows =
     let parts = and_parts (nat_eq (begun.virt + begun.more + 1) virt) (nat_eq (begun.target + begun.more + 1) value.block && nat_eq begun.time value.time) follows in
     let others = and_parts (nat_eq (begun.target + begun.more + 1) value.block) (nat_eq begun.time value.time) parts.1 in

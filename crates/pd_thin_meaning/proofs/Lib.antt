@@ -1,4 +1,5 @@
 pub mod JoinedLemmas
+pub mod AppendLemmas
 pub mod LeftLemmas
 pub mod AscendLemmas
 pub mod FitLemmas

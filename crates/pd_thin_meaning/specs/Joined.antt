@@ -42,6 +42,10 @@ abbrev pub is_followed_by : Begun → ℕ → BlockTime → Bool
 is_followed_by begun virt mapping =
     (begun.virt + begun.more + 1 == virt) && ((begun.target + begun.more + 1 == mapping.block) && (begun.time == mapping.time))
 
+-- the data block and the time of its first mapping
+abbrev pub first_of : Begun → BlockTime
+first_of begun = record { block = begun.target; time = begun.time }
+
 -- a run was given of what was left, or none
 abbrev pub IsGiven : Option Run → List Run → List Run → Type 0
 IsGiven None old new = old ≡ new

@@ -1,5 +1,7 @@
 //! Mappings that follow each other, as one run.
 
+ghost use Rattle.std.specs.Prelude.{◌+◌, ◌^◌, ◌<◌};
+
 use pd_value::BlockTime;
 
 /// Mappings of a thin device that follow each other: of virtual blocks to data blocks, at one time.
@@ -23,15 +25,19 @@ pub(crate) struct Begun {
     /// How many mappings follow the first one.
     pub(crate) more: u64,
     pub(crate) time: u32,
+    ghost fits: { virt + more < 2 ^ 64 },
 }
 
 impl Begun {
     ghost use Rattle.std.specs.Prelude.{◌≡◌};
-    ghost use Rattle.pd_thin_meaning.specs.Joined.{given_run, is_followed_by};
+    ghost use Rattle.pd_thin_meaning.specs.Joined.{first_of, given_run, is_followed_by};
 
     /// The run of one mapping.
     fn of(virt: u64, mapping: BlockTime) -> Begun
-        ensures { result ≡ record { virt = virt; target = mapping.block; more = 0; time = mapping.time } }
+        ensures virt { result.virt ≡ virt }
+        ensures target { result.target ≡ mapping.block }
+        ensures more { result.more ≡ 0 }
+        ensures time { result.time ≡ mapping.time }
     {
         Begun {
             virt,
@@ -49,6 +55,17 @@ impl Begun {
         let next_data = mapping.block > self.target && mapping.block - self.target - 1 == self.more;
         let same_time = mapping.time == self.time;
         next_virtual & next_data & same_time
+    }
+
+    /// Whether the first mapping of another run follows the run's last one.
+    fn continues_in(&self, later: &Begun) -> bool
+        ensures { result ≡ is_followed_by self.now later.now.virt (first_of later.now) }
+    {
+        let first = BlockTime {
+            block: later.target,
+            time: later.time,
+        };
+        self.is_followed_by(later.virt, first)
     }
 
     /// The run as it is.
@@ -84,6 +101,15 @@ impl Joined {
         Joined { begun: None }
     }
 
+    /// One mapping.
+    pub fn of(virt: u64, mapping: BlockTime) -> Joined
+        ensures { begun_mappings result.begun ≡ mapping_of (virt, mapping) ∷ [] }
+    {
+        Joined {
+            begun: Some(Begun::of(virt, mapping)),
+        }
+    }
+
     /// Takes the next mapping, and gives the run before it where the mapping doesn't follow that.
     pub fn take(&mut self, virt: u64, mapping: BlockTime) -> Option<Run>
         ensures { (rest : List Mapping) → IsGiven result (given_runs (begun_mappings self.old.begun ++ (mapping_of (virt, mapping) ∷ rest)))
@@ -102,6 +128,33 @@ impl Joined {
             }
             None => {
                 self.begun = Some(Begun::of(virt, mapping));
+                None
+            }
+        }
+    }
+
+    /// Takes the mappings that another one has since its last run, and gives the run before them where they don't follow that.
+    pub fn append(&mut self, later: Joined) -> Option<Run>
+        ensures given { (rest : List Mapping) → IsGiven result (given_runs (begun_mappings self.old.begun ++ (begun_mappings later.begun ++ rest)))
+            (given_runs (begun_mappings self.new.begun ++ rest)) }
+        ensures ended { IfSome result (λ run. given_runs (begun_mappings self.old.begun) ≡ run ∷ []) }
+    {
+        let Some(next) = later.begun else {
+            return None;
+        };
+        match self.begun {
+            Some(mut begun) => {
+                if begun.continues_in(&next) {
+                    begun.more = next.virt - begun.virt + next.more;
+                    self.begun = Some(begun);
+                    None
+                } else {
+                    self.begun = later.begun;
+                    Some(begun.run())
+                }
+            }
+            None => {
+                self.begun = later.begun;
                 None
             }
         }

@@ -9,4 +9,4 @@ returns-then-is_followed_by c = λ rest.
 
 pub returns-else-is_followed_by : goal.returns-else-is_followed_by
 returns-else-is_followed_by c = λ rest.
-    rw (c.in-Some.is, c.run.ensures, c.of.ensures) (taken_apart c.in-Some.begun c.args.virt c.args.mapping rest (sym c.if-is_followed_by.ensures))
+    rw (c.in-Some.is, c.run.ensures, c.of.ensures.virt, c.of.ensures.target, c.of.ensures.more, c.of.ensures.time) (taken_apart c.in-Some.begun c.args.virt c.args.mapping rest (sym c.if-is_followed_by.ensures))
