@@ -1,37 +1,42 @@
 -- Lines that are counted one after another.
-use Rattle.std.proofs.Common.{◌≡◌, ℕ, ◌+◌, ◌-◌, ◌^◌, min, List, [], ◌∷◌, ◌++◌, length, map, Option, None, Some, IfSome, Result, Ok, Err, OnOk, refl, sym, ap, ◌∙◌, append_assoc, arith, length-append}
+use Rattle.std.proofs.Common.{◌≡◌, ℕ, ◌+◌, ◌-◌, ◌^◌, min, List, [], ◌∷◌, ◌++◌, length, Option, None, Some, IfSome, Result, Ok, Err, OnOk, refl, sym, ap, ◌∙◌, append_assoc, arith, length-append}
 use Rattle.std.specs.Prelude.{sum_by}
 use Rattle.std.specs.List.{flat_map}
 use Rattle.std.proofs.lemmas.List.{append-nil}
 use Rattle.std.proofs.lemmas.List.Sums.{sum_by-append}
-use Rattle.pd_spells.specs.ThinText.{Line, map_line}
+use Rattle.pd_spells.specs.ThinText.{Line}
 use Rattle.pd_thin_meaning.specs.declared.devices.DeviceRow.{DeviceRow}
-use Rattle.pd_thin_meaning.specs.declared.joined.Run.{Run}
 use Rattle.pd_thin_meaning.specs.Given.{row_lines}
-use Rattle.pd_thin_meaning.specs.Joined.{spelled}
-use Rattle.pd_query.proofs.PutsLemmas.{each_told, one_told, two_told}
+use Rattle.pd_query.proofs.PutsLemmas.{one_told, two_told}
 use Rattle.pd_query.specs.declared.counts.DumpCounts.{DumpCounts}
 use Rattle.pd_query.specs.Counts.{Counted, CountsSome, IsCountOf}
 use Rattle.pd_query.specs.Mapped.{mappings_of_line}
 
+-- the lines of another count were counted
+pub count_both : (old new other : DumpCounts) → new.lines ≡ min (old.lines + other.lines) (2 ^ 64 - 1) → new.mappings ≡ min (old.mappings + other.mappings) (2 ^ 64 - 1)
+    → (lines : List Line) → IsCountOf other lines → Counted old new lines
+count_both old new other lines_are mappings_are lines counts = record {
+  all = λ before is. record {
+    mappings_are = mappings_are ∙ (capped old.mappings (sum_by mappings_of_line before) other.mappings (sum_by mappings_of_line lines) is.mappings_are counts.mappings_are
+        ∙ ap (λ (n : ℕ). min n (2 ^ 64 - 1)) (sym (sum_by-append mappings_of_line before lines)));
+    lines_are = lines_are ∙ (capped old.lines (length before) other.lines (length lines) is.lines_are counts.lines_are ∙ ap (λ (n : ℕ). min n (2 ^ 64 - 1)) (sym (length-append before lines)));
+  };
+}
+  where
+    capped : (a b n k : ℕ) → a ≡ min b (2 ^ 64 - 1) → n ≡ min k (2 ^ 64 - 1) → min (a + n) (2 ^ 64 - 1) ≡ min (b + k) (2 ^ 64 - 1)
+    capped a b n k is also = omega arith
+
 -- a line was counted
 pub count_one : (old new : DumpCounts) (line : Line) → new.lines ≡ min (old.lines + 1) (2 ^ 64 - 1) → new.mappings ≡ min (old.mappings + mappings_of_line line) (2 ^ 64 - 1)
     → Counted old new (line ∷ [])
-count_one old new line lines mappings = record {
-  all = λ before is.
-      let before_mappings = is.mappings_are in
-      let before_lines = is.lines_are in
-      record {
-        mappings_are = mappings ∙ (capped old.mappings (sum_by mappings_of_line before) (mappings_of_line line) is.mappings_are ∙ ap (λ (n : ℕ). min n (2 ^ 64 - 1)) (sym (sum_more before line)));
-        lines_are = lines ∙ (capped old.lines (length before) 1 is.lines_are ∙ ap (λ (n : ℕ). min n (2 ^ 64 - 1)) (sym (length-append before (line ∷ []))));
-      };
-}
+count_one old new line lines mappings =
+    let n : ℕ = mappings_of_line line in
+    let one : sum_by mappings_of_line (line ∷ []) ≡ n = omega arith in
+    count_both old new (record { mappings = min n (2 ^ 64 - 1); lines = 1 }) lines (mappings ∙ capped old.mappings n) (line ∷ [])
+    (record { mappings_are = ap (λ (n : ℕ). min n (2 ^ 64 - 1)) (sym one); lines_are = refl })
   where
-    capped : (a b n : ℕ) → a ≡ min b (2 ^ 64 - 1) → min (a + n) (2 ^ 64 - 1) ≡ min (b + n) (2 ^ 64 - 1)
-    capped a b n is = omega arith
-
-    sum_more : (before : List Line) (line : Line) → sum_by mappings_of_line (before ++ line ∷ []) ≡ sum_by mappings_of_line before + mappings_of_line line
-    sum_more before line = let one : sum_by mappings_of_line (line ∷ []) ≡ mappings_of_line line = omega arith in sum_by-append mappings_of_line before (line ∷ []) ∙ ap (λ (n : ℕ). sum_by mappings_of_line before + n) one
+    capped : (a n : ℕ) → min (a + n) (2 ^ 64 - 1) ≡ min (a + min n (2 ^ 64 - 1)) (2 ^ 64 - 1)
+    capped a n = omega arith
 
 -- a line that has no mapping
 pub count_plain : (old new : DumpCounts) (line : Line) → mappings_of_line line ≡ 0 → new.lines ≡ min (old.lines + 1) (2 ^ 64 - 1) → new.mappings ≡ old.mappings
@@ -88,18 +93,7 @@ pub counts_all : (held : Option (List (List ℕ))) (old new : DumpCounts) (whole
 counts_all held old new whole rest so_far none =
     two_told {P = λ image. CountedUpTo old new (whole image) (rest image)} {Q = λ image. rest image ≡ []} {R = λ image. Counted old new (whole image)} held (λ image so_far none. rw (so_far.split ∙ ap (λ (xs : List Line). so_far.lines ++ xs) none ∙ append-nil so_far.lines) so_far.counted) so_far none
 
--- nothing is to be counted
-pub counts_nothing : (held : Option (List (List ℕ))) (lines : List (List ℕ) → List Line) (now : DumpCounts) → IfSome held (λ image. lines image ≡ []) → CountsSome held lines now now
-counts_nothing held lines now none = one_told held (λ image e. rw e (counted_none now)) none
-
--- a line that is counted, whatever the device tells
-pub counts_line : (held : Option (List (List ℕ))) (line : Line) {old new : DumpCounts} → Counted old new (line ∷ []) → CountsSome held (λ image. line ∷ []) old new
-counts_line held line {old} {new} counted = each_told held (λ image. counted)
-
--- the lines of runs and of rows, by the first one
-pub run_lines : (run : Run) (left later : List Run) → left ≡ run ∷ later → map map_line (map spelled left) ≡ (map_line (spelled run) ∷ []) ++ map map_line (map spelled later)
-run_lines run left later is = rw is refl
-
+-- the lines of rows, by the first one
 pub rows_lines : (image : List (List ℕ)) (row : DeviceRow) (left later : List DeviceRow) → left ≡ row ∷ later → flat_map (row_lines image) left ≡ row_lines image row ++ flat_map (row_lines image) later
 rows_lines image row left later is = rw is refl
 

@@ -1,6 +1,9 @@
 pub mod PutsLemmas
 pub mod TextLemmas
 pub mod CountLemmas
+pub mod RunLemmas
+pub mod LeafTextLemmas
+pub mod WalkLemmas
 pub mod QueryLemmas
 pub mod SharedTextLemmas
 pub mod ShapeTextLemmas

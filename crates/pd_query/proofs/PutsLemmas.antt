@@ -87,10 +87,6 @@ module _ (held : Option (List (List ℕ))) where
   so_far_stops fault {whole} {rest} {old} {new} so_far =
       so_far_lost {text_of = rest} (λ image. []) so_far (each_told held (λ image. sym (append-nil (rest image)))) (prints_none fault rest new)
 
-  -- there is nothing to print
-  pub prints_nothing : {E : Type 0} (done : Unit {0}) (text_of : List (List ℕ) → List ℕ) (now : Printing) → IfSome held (λ image. text_of image ≡ []) → PrintsSome {E = E} held text_of (Ok done) now now
-  prints_nothing done text_of now none = so_far_all done (so_far_none text_of now) none
-
   -- a first part, and then the rest, which a call printed or began to
   pub some_then : {E : Type 0} {done : Unit {0}} {whole first rest : List (List ℕ) → List ℕ} {old mid new : Printing} (result : Result (Unit {0}) E)
       → ((image : List (List ℕ)) → whole image ≡ first image ++ rest image) → PrintsSome {E = E} held first (Ok done) old mid → PrintsSome held rest result mid new

@@ -7,3 +7,7 @@ pub mod Counts
 pub mod Sound
 pub mod SharedLines
 pub mod SharedDump
+pub mod RunsPrinted
+pub mod LeafText
+pub mod LeafLines
+pub mod DeviceWalk

@@ -1,7 +1,7 @@
 -- Text that is printed, and text that was put.
 use Rattle.std.specs.Prelude.{◌≡◌, ℕ, List, [], Option, IfSome, Result, OnOk}
 use Rattle.pd_kinds.specs.declared.kind.Kind.{Kind}
-use Rattle.pd_kinds.specs.declared.kind.Stage.TheVariants.{Whole}
+use Rattle.pd_kinds.specs.declared.kind.Stage.{Stage}
 use Rattle.pd_kinds.specs.Objects.{Appends, AppendsFront}
 use Rattle.pd_kinds.specs.Stages.{faults}
 use Rattle.pd_lines.specs.Printing.{Printing, Prints}
@@ -23,6 +23,6 @@ pub record Puts {T E : Type 0} (held : Option (List (List ℕ))) (Holds : List (
 abbrev pub PutsText : {T E : Type 0} → Option (List (List ℕ)) → (List (List ℕ) → List ℕ) → Result T E → Option (List ℕ) → Option (List ℕ) → Type 0
 PutsText held text_of result before after = Puts held (λ image text. text ≡ text_of image) result before after
 
--- or the one that answers, where the image has no faults up to the stage Whole
-abbrev pub PutsAnswer : {T E : Type 0} → Kind → (List (List ℕ) → List ℕ) → Result T E → Option (List (List ℕ)) → Option (List ℕ) → Option (List ℕ) → Type 0
-PutsAnswer kind text_of result held before after = Puts held (λ image text. faults kind Whole image ≡ [] → text ≡ text_of image) result before after
+-- or the one that answers, where the image has no faults up to a stage
+abbrev pub PutsAnswer : {T E : Type 0} → Kind → Stage → (List (List ℕ) → List ℕ) → Result T E → Option (List (List ℕ)) → Option (List ℕ) → Option (List ℕ) → Type 0
+PutsAnswer kind stage text_of result held before after = Puts held (λ image text. faults kind stage image ≡ [] → text ≡ text_of image) result before after

@@ -16,8 +16,8 @@ pub struct DumpCounts {
 }
 
 impl DumpCounts {
-    ghost use Rattle.std.specs.Prelude.{◌∷◌};
-    ghost use Rattle.pd_spells.specs.ThinText.{end_line, first_line};
+    ghost use Rattle.std.specs.Prelude.{◌∷◌, List};
+    ghost use Rattle.pd_spells.specs.ThinText.{Line, end_line, first_line};
     ghost use Rattle.pd_query.specs.Counts.{Counted, IsCountOf};
 
     /// No line was counted.
@@ -36,6 +36,14 @@ impl DumpCounts {
     {
         self.lines = self.lines.saturating_add(1);
         self.mappings = self.mappings.saturating_add(mappings_of(line));
+    }
+
+    /// Counts the lines that another count is of.
+    pub(crate) fn add(&mut self, other: &DumpCounts)
+        ensures { (lines : List Line) → IsCountOf other.now lines → Counted self.old self.new lines }
+    {
+        self.lines = self.lines.saturating_add(other.lines);
+        self.mappings = self.mappings.saturating_add(other.mappings);
     }
 
     /// Counts the first line of a text.

@@ -5,7 +5,12 @@
 #![tactic(auto)]
 
 mod counts;
+mod device_walk;
 mod fault;
+mod kept_lines;
+mod leaf_lines;
+mod leaf_text;
+mod leaf_texts;
 mod lines;
 mod query;
 mod shared_devices;

@@ -2,6 +2,7 @@
 
 ghost use Rattle.std.specs.Prelude.{◌≡◌, ℕ, List, Option, IfOk};
 ghost use Rattle.pd_kinds.specs.declared.kind.Kind.{Kind};
+ghost use Rattle.pd_kinds.specs.declared.kind.Stage.{Stage};
 ghost use Rattle.pd_image.specs.Device.{IsAttached, OnlyReads};
 ghost use Rattle.pd_image.specs.Sink.{KeepsSink};
 ghost use Rattle.pd_query.specs.Puts.{PutsAnswer};
@@ -11,7 +12,7 @@ use crate::fault::QueryFault;
 use pd_image::{Device, Sink};
 use std::alloc::Global;
 
-/// What is asked of an image that was found sound, and answered by a text.
+/// What is asked of an image that was found sound up to a stage, and answered by a text.
 pub trait Query {
     /// The query as it was started over an image.
     type Started: Drop;
@@ -19,7 +20,10 @@ pub trait Query {
     /// Which kind of metadata is asked.
     ghost kind: { Kind };
 
-    /// The text that answers, of an image without faults up to the stage Whole.
+    /// The stage up to which it is asked of images without faults.
+    ghost stage: { Stage };
+
+    /// The text that answers, of an image without faults up to the stage.
     ghost answer: { Self → List (List ℕ) → List ℕ };
 
     /// It was started over a device that holds this where it tells what it holds.
@@ -48,7 +52,7 @@ pub trait Query {
         requires dev { IsAttached (D.state dev.old) }
         requires out { (K.state out.old).access ≡ 1 }
         requires over { IsOver self.now started (D.state dev.old).held }
-        ensures text { PutsAnswer kind (answer self.now) result (D.state dev.old).held (K.state out.old).written (K.state out.new).written }
+        ensures text { PutsAnswer kind stage (answer self.now) result (D.state dev.old).held (K.state out.old).written (K.state out.new).written }
         ensures kept { OnlyReads (D.state dev.old) (D.state dev.new) }
         ensures sink { KeepsSink (K.state out.old) (K.state out.new) }
         ensures faults { QueryEnds result (D.state dev.old).faults (D.state dev.new).faults (K.state out.old).faults (K.state out.new).faults };

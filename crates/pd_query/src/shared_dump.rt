@@ -77,6 +77,7 @@ pub struct TextOfShape;
 impl Query for TextOfShape {
     ghost use Rattle.std.specs.Prelude.{◌≡◌};
     ghost use Rattle.pd_kinds.specs.declared.kind.Kind.TheVariants.{Thin};
+    ghost use Rattle.pd_kinds.specs.declared.kind.Stage.TheVariants.{Whole};
     ghost use Rattle.pd_shapes.specs.ImageShape.{image_shape};
     ghost use Rattle.pd_shapes.specs.SharedText.{text_of_shape};
     ghost use Rattle.pd_query.specs.Sound.{IfSound};
@@ -85,6 +86,8 @@ impl Query for TextOfShape {
     type Started = SharedDump;
 
     ghost kind = { Thin };
+
+    ghost stage = { Whole };
 
     ghost answer = { λ query image. text_of_shape (image_shape image) };
 

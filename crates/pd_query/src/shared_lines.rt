@@ -1,6 +1,6 @@
 //! The lines of a pool in whose text each leaf that devices share stands once, printed.
 
-ghost use Rattle.std.specs.Prelude.{◌≡◌, ◌+◌, ◌≤◌, ◌++◌, ◌∷◌, [], ℕ, List, map, IfOk, IfSome, OnOk, length};
+ghost use Rattle.std.specs.Prelude.{◌≡◌, ◌+◌, ◌++◌, ◌∷◌, [], map, IfOk, IfSome, length};
 ghost use Rattle.std.specs.List.{flat_map};
 ghost use Rattle.pd_kinds.specs.Objects.{CountsFault};
 ghost use Rattle.pd_image.specs.Device.{IsAttached, OnlyReads};
@@ -10,7 +10,6 @@ ghost use Rattle.pd_lines.specs.Printing.{Prints};
 ghost use Rattle.pd_spells.specs.ThinText as p;
 ghost use Rattle.pd_spells.specs.ThinText.{thin};
 ghost use Rattle.pd_texts.specs.Printed.{text_of_line};
-ghost use Rattle.pd_texts.specs.ThinLine.{line_of};
 ghost use Rattle.pd_thin_meaning.specs.Devices.{rows_left};
 ghost use Rattle.pd_thin_meaning.specs.Given.{super_head};
 ghost use Rattle.pd_thin_meaning.specs.Runs.{runs_below, runs_left};
@@ -19,13 +18,13 @@ ghost use Rattle.pd_shared_leaves.specs.Pieces.{pieces_left};
 ghost use Rattle.pd_query.specs.Failing.{Fails, SinkFails};
 ghost use Rattle.pd_query.specs.Puts.{PrintsSome};
 ghost use Rattle.pd_query.specs.SharedDump.{body_left};
-ghost use Rattle.pd_query.specs.SharedLines.{body_lines, entries_in, leaf_lines, leaves_lines, piece_line, pieces_lines, sharing_lines};
+ghost use Rattle.pd_query.specs.SharedLines.{entries_in, leaf_lines, leaves_lines, piece_line, pieces_lines, sharing_lines};
+ghost use Rattle.pd_query.specs.ThinText.{given_text};
 
-use crate::counts::DumpCounts;
 use crate::fault::QueryFault;
 use crate::lines::{print_line, print_text_line};
 use crate::shared_devices::SharingDevices;
-use crate::thin_lines::{add_runs_of, map_line, pool_line};
+use crate::thin_lines::{map_line, pool_line};
 use pd_image::{Device, Failed, Sink};
 use pd_kinds::ThinSuper;
 use pd_lines::Printer;
@@ -76,6 +75,49 @@ fn count_runs_of<D: Device>(root: u64, runs: &mut MapRuns, dev: &mut D) -> Resul
     count_runs(runs, dev)
 }
 
+/// Prints the map lines of the runs that are left.
+fn add_runs<D: Device, K: Sink>(
+    runs: &mut MapRuns,
+    dev: &mut D,
+    printer: &mut Printer<'_, K>,
+) -> Result<(), QueryFault>
+    requires dev { IsAttached (D.state dev.old) }
+    requires out { (K.state printer.old.out.now).access ≡ 1 }
+    ensures same_reference { printer.new.out.ghost_name ≡ printer.old.out.ghost_name }
+    ensures prints { PrintsSome (D.state dev.old).held (λ image. given_text (runs_left image runs.old)) result (printing K.state printer.old) (printing K.state printer.new) }
+    ensures kept { OnlyReads (D.state dev.old) (D.state dev.new) }
+    ensures faults { Fails result (D.state dev.old).faults (D.state dev.new).faults (K.state printer.old.out.now).faults (K.state printer.new.out.now).faults }
+{
+    loop {
+        let run = match runs.next(dev) {
+            Ok(run) => run,
+            Err(_) => return Err(QueryFault::Device),
+        };
+        match run {
+            Some(run) => print_text_line(&map_line(&run), printer)?,
+            None => return Ok(()),
+        }
+    }
+}
+
+/// Prints the map lines of the runs below a root.
+fn add_runs_of<D: Device, K: Sink>(
+    root: u64,
+    runs: &mut MapRuns,
+    dev: &mut D,
+    printer: &mut Printer<'_, K>,
+) -> Result<(), QueryFault>
+    requires dev { IsAttached (D.state dev.old) }
+    requires out { (K.state printer.old.out.now).access ≡ 1 }
+    ensures same_reference { printer.new.out.ghost_name ≡ printer.old.out.ghost_name }
+    ensures prints { PrintsSome (D.state dev.old).held (λ image. given_text (runs_below image root)) result (printing K.state printer.old) (printing K.state printer.new) }
+    ensures kept { OnlyReads (D.state dev.old) (D.state dev.new) }
+    ensures faults { Fails result (D.state dev.old).faults (D.state dev.new).faults (K.state printer.old.out.now).faults (K.state printer.new.out.now).faults }
+{
+    runs.restart(root);
+    add_runs(runs, dev, printer)
+}
+
 /// Prints the lines of a shared leaf: its number and that of its mappings, and then its runs. Its block is read twice.
 fn add_leaf<D: Device, K: Sink>(
     number: u64,
@@ -96,7 +138,7 @@ fn add_leaf<D: Device, K: Sink>(
         Err(_) => return Err(QueryFault::Device),
     };
     print_text_line(&ThinLine::Leaf { number, entries }, printer)?;
-    add_runs_of(block, runs, dev, printer, &mut DumpCounts::none())
+    add_runs_of(block, runs, dev, printer)
 }
 
 /// Prints the lines of the shared leaves, by their numbers.

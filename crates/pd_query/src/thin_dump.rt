@@ -1,13 +1,14 @@
 //! The dump of a pool.
 
 use crate::counts::DumpCounts;
+use crate::device_walk::DeviceWalk;
 use crate::fault::QueryFault;
 use crate::query::Query;
 use crate::thin_lines::{add_pool, read_super};
 use pd_image::{Device, Sink};
-use pd_kinds::ThinSuper;
+use pd_kinds::{MAX_META_BLOCKS, ThinSuper};
 use pd_lines::Printer;
-use pd_thin_meaning::{MapRuns, ThinDevices, given_lines_are_the_text, rows_are_the_devices};
+use pd_thin_meaning::{ThinDevices, given_lines_are_the_text, rows_are_the_devices};
 use std::alloc::{AllocError, Global};
 
 /// The dump of a pool, with the memory that it takes.
@@ -15,7 +16,7 @@ use std::alloc::{AllocError, Global};
 pub struct ThinDump {
     s: ThinSuper,
     devices: ThinDevices,
-    runs: MapRuns,
+    walk: DeviceWalk,
 }
 
 impl ThinDump {
@@ -36,7 +37,8 @@ impl ThinDump {
     ghost use Rattle.pd_query.specs.ThinText.{dump_text};
     ghost use Rattle.pd_thin_meaning.specs.Given.{super_lines};
 
-    /// Reads the superblock of a pool, and takes the memory for its dump: three cursors over trees.
+    /// Reads the superblock of a pool, and takes the memory for its dump: three cursors over trees, and 4 bytes a metadata
+    /// block for which leaves were met.
     ///
     /// Fails with `Device` where a read failed, and with `Memory` where that memory wasn't found.
     pub fn start<D: Device>(alloc: Global, dev: &mut D) -> Result<ThinDump, QueryFault>
@@ -54,19 +56,20 @@ impl ThinDump {
             Ok(s) => s,
             Err(_) => return Err(QueryFault::Device),
         };
-        let dump = ThinDump::with_super(alloc, s)?;
+        let blocks = dev.blocks().min(s.meta_map.blocks).min(MAX_META_BLOCKS);
+        let dump = ThinDump::with_super(alloc, s, blocks)?;
         Ok(dump)
     }
 
-    /// Takes the memory for the dump of the pool with this superblock.
-    fn with_super(alloc: Global, s: ThinSuper) -> Result<ThinDump, AllocError>
+    /// Takes the memory for the dump of the pool with this superblock, and so many metadata blocks.
+    fn with_super(alloc: Global, s: ThinSuper, blocks: u64) -> Result<ThinDump, AllocError>
         ensures text { (image : List (List ℕ)) → IfOk result (λ dump. text_left image dump ≡ dump_text image s) }
         ensures lines { (image : List (List ℕ)) → IfOk result (λ dump. lines_left image dump ≡ super_lines image s) }
         ensures used { IfOk result (λ dump. used_of dump ≡ s.meta_map.allocated) }
     {
-        let runs = MapRuns::start(alloc, s.mapping_root)?;
+        let walk = DeviceWalk::start(alloc, blocks)?;
         let devices = ThinDevices::start(alloc, &s)?;
-        Ok(ThinDump { s, devices, runs })
+        Ok(ThinDump { s, devices, walk })
     }
 
     /// How many metadata blocks the pool uses, as its superblock says.
@@ -76,7 +79,8 @@ impl ThinDump {
         self.s.meta_map.allocated
     }
 
-    /// Puts the pool's text, once. It takes no memory.
+    /// Puts the pool's text, once. It takes up to 16 MiB for the texts of leaves that are met again; where they aren't found,
+    /// it reads these leaves each time.
     ///
     /// Fails with `Device` where a read failed, and with `Sink` where `out` did; then a front of the text was put.
     pub fn put<D: Device, K: Sink>(&mut self, dev: &mut D, out: &mut K) -> Result<(), QueryFault>
@@ -107,10 +111,11 @@ impl ThinDump {
     {
         let mut printer = Printer::to_sink(out);
         let mut counts = DumpCounts::none();
+        self.walk.clear();
         add_pool(
             &self.s,
             &mut self.devices,
-            &mut self.runs,
+            &mut self.walk,
             dev,
             &mut printer,
             &mut counts,
@@ -129,6 +134,7 @@ pub struct TextOfPool;
 impl Query for TextOfPool {
     ghost use Rattle.std.specs.Prelude.{◌≡◌};
     ghost use Rattle.pd_kinds.specs.declared.kind.Kind.TheVariants.{Thin};
+    ghost use Rattle.pd_kinds.specs.declared.kind.Stage.TheVariants.{Whole};
     ghost use Rattle.pd_kinds.specs.Meaning.{thin_meaning};
     ghost use Rattle.pd_spells.specs.ThinText.{text_of_pool};
     ghost use Rattle.pd_query.specs.Sound.{IfSound};
@@ -137,6 +143,8 @@ impl Query for TextOfPool {
     type Started = ThinDump;
 
     ghost kind = { Thin };
+
+    ghost stage = { Whole };
 
     ghost answer = { λ query image. text_of_pool (thin_meaning image) };
 

@@ -1,6 +1,6 @@
 //! The lines of a pool, printed.
 
-ghost use Rattle.std.specs.Prelude.{◌≡◌, ◌≤◌, ◌++◌, ◌∷◌, [], ℕ, List, map, OnOk, IfOk, IfSome, length};
+ghost use Rattle.std.specs.Prelude.{◌≡◌, ◌≤◌, ◌++◌, ◌∷◌, [], OnOk, IfOk, IfSome, length};
 ghost use Rattle.std.specs.List.{flat_map};
 ghost use Rattle.pd_kinds.specs.Objects.{CountsFault};
 ghost use Rattle.pd_kinds.specs.Graph.{block_at};
@@ -8,7 +8,6 @@ ghost use Rattle.pd_kinds.specs.ThinSuper.{thin_fields};
 ghost use Rattle.pd_image.specs.Device.{IsAttached, OnlyReads};
 ghost use Rattle.pd_lines.specs.Printer.{printing};
 ghost use Rattle.pd_thin_meaning.specs.Devices.{rows_left};
-ghost use Rattle.pd_thin_meaning.specs.Runs.{runs_below, runs_left};
 ghost use Rattle.pd_spells.specs.ThinText as p;
 ghost use Rattle.pd_spells.specs.ThinText.{thin};
 ghost use Rattle.pd_texts.specs.Printed.{text_of_line};
@@ -17,10 +16,13 @@ ghost use Rattle.pd_thin_meaning.specs.Joined.{spelled};
 ghost use Rattle.pd_texts.specs.ThinLine.{line_of};
 ghost use Rattle.pd_query.specs.Puts.{PrintsSome};
 ghost use Rattle.pd_query.specs.Counts.{CountsSome};
+ghost use Rattle.pd_query.specs.DeviceWalk.{kept_texts};
 ghost use Rattle.pd_query.specs.Failing.{Fails};
-ghost use Rattle.pd_query.specs.ThinText.{given_text, rest_text, row_text, rows_text};
+ghost use Rattle.pd_query.specs.LeafText.{AreKept};
+ghost use Rattle.pd_query.specs.ThinText.{rest_text, row_text, rows_text};
 
 use crate::counts::DumpCounts;
+use crate::device_walk::DeviceWalk;
 use crate::fault::QueryFault;
 use crate::lines::{add_end_line, add_first_line, add_line};
 use pd_image::{Device, Failed, Sink};
@@ -28,7 +30,7 @@ use pd_kinds::{Block, ThinSuper};
 use pd_lines::Printer;
 use pd_supers::read_thin_super;
 use pd_texts::{Run2, ThinLine};
-use pd_thin_meaning::{DeviceRow, MapRuns, Run, ThinDevices};
+use pd_thin_meaning::{DeviceRow, Run, ThinDevices};
 
 /// The line of a pool.
 pub(crate) fn pool_line(s: &ThinSuper) -> ThinLine
@@ -55,66 +57,21 @@ pub(crate) fn map_line(run: &Run) -> ThinLine
     })
 }
 
-/// Prints the map lines of the runs that are left.
-fn add_runs<D: Device, K: Sink>(
-    runs: &mut MapRuns,
-    dev: &mut D,
-    printer: &mut Printer<'_, K>,
-    counts: &mut DumpCounts,
-) -> Result<(), QueryFault>
-    requires dev { IsAttached (D.state dev.old) }
-    requires open { (K.state printer.old.out.now).access ≡ 1 }
-    ensures same_reference { printer.new.out.ghost_name ≡ printer.old.out.ghost_name }
-    ensures prints { PrintsSome (D.state dev.old).held (λ image. given_text (runs_left image runs.old)) result (printing K.state printer.old) (printing K.state printer.new) }
-    ensures counted { OnOk result (CountsSome (D.state dev.old).held (λ image. map p.map_line (map spelled (runs_left image runs.old))) counts.old counts.new) }
-    ensures kept { OnlyReads (D.state dev.old) (D.state dev.new) }
-    ensures faults { Fails result (D.state dev.old).faults (D.state dev.new).faults (K.state printer.old.out.now).faults (K.state printer.new.out.now).faults }
-{
-    loop {
-        let run = match runs.next(dev) {
-            Ok(run) => run,
-            Err(_) => return Err(QueryFault::Device),
-        };
-        match run {
-            Some(run) => add_line(&map_line(&run), printer, counts)?,
-            None => return Ok(()),
-        }
-    }
-}
-
-/// Prints the map lines of the runs below a root.
-pub(crate) fn add_runs_of<D: Device, K: Sink>(
-    root: u64,
-    runs: &mut MapRuns,
-    dev: &mut D,
-    printer: &mut Printer<'_, K>,
-    counts: &mut DumpCounts,
-) -> Result<(), QueryFault>
-    requires dev { IsAttached (D.state dev.old) }
-    requires open { (K.state printer.old.out.now).access ≡ 1 }
-    ensures same_reference { printer.new.out.ghost_name ≡ printer.old.out.ghost_name }
-    ensures prints { PrintsSome (D.state dev.old).held (λ image. given_text (runs_below image root)) result (printing K.state printer.old) (printing K.state printer.new) }
-    ensures counted { OnOk result (CountsSome (D.state dev.old).held (λ image. map p.map_line (map spelled (runs_below image root))) counts.old counts.new) }
-    ensures kept { OnlyReads (D.state dev.old) (D.state dev.new) }
-    ensures faults { Fails result (D.state dev.old).faults (D.state dev.new).faults (K.state printer.old.out.now).faults (K.state printer.new.out.now).faults }
-{
-    runs.restart(root);
-    add_runs(runs, dev, printer, counts)
-}
-
 /// Prints the line of a device, and those of its runs.
 fn add_device<D: Device, K: Sink>(
     row: &DeviceRow,
-    runs: &mut MapRuns,
+    walk: &mut DeviceWalk,
     dev: &mut D,
     printer: &mut Printer<'_, K>,
     counts: &mut DumpCounts,
 ) -> Result<(), QueryFault>
     requires dev { IsAttached (D.state dev.old) }
+    requires kept { IfSome (D.state dev.old).held (λ image. AreKept image (kept_texts walk.old)) }
     requires open { (K.state printer.old.out.now).access ≡ 1 }
     ensures same_reference { printer.new.out.ghost_name ≡ printer.old.out.ghost_name }
     ensures prints { PrintsSome (D.state dev.old).held (λ image. row_text image row.now) result (printing K.state printer.old) (printing K.state printer.new) }
     ensures counted { OnOk result (CountsSome (D.state dev.old).held (λ image. row_lines image row.now) counts.old counts.new) }
+    ensures texts { OnOk result (IfSome (D.state dev.old).held (λ image. AreKept image (kept_texts walk.new))) }
     ensures kept { OnlyReads (D.state dev.old) (D.state dev.new) }
     ensures faults { Fails result (D.state dev.old).faults (D.state dev.new).faults (K.state printer.old.out.now).faults (K.state printer.new.out.now).faults }
 {
@@ -123,22 +80,24 @@ fn add_device<D: Device, K: Sink>(
         details: row.details,
     };
     add_line(&line, printer, counts)?;
-    add_runs_of(row.root, runs, dev, printer, counts)
+    walk.add_runs_of(row.root, dev, printer, counts)
 }
 
 /// Prints the lines of the devices that are left.
 fn add_devices<D: Device, K: Sink>(
     devices: &mut ThinDevices,
-    runs: &mut MapRuns,
+    walk: &mut DeviceWalk,
     dev: &mut D,
     printer: &mut Printer<'_, K>,
     counts: &mut DumpCounts,
 ) -> Result<(), QueryFault>
     requires dev { IsAttached (D.state dev.old) }
+    requires kept { IfSome (D.state dev.old).held (λ image. AreKept image (kept_texts walk.old)) }
     requires open { (K.state printer.old.out.now).access ≡ 1 }
     ensures same_reference { printer.new.out.ghost_name ≡ printer.old.out.ghost_name }
     ensures prints { PrintsSome (D.state dev.old).held (λ image. rows_text image (rows_left image devices.old)) result (printing K.state printer.old) (printing K.state printer.new) }
     ensures counted { OnOk result (CountsSome (D.state dev.old).held (λ image. flat_map (row_lines image) (rows_left image devices.old)) counts.old counts.new) }
+    ensures texts { OnOk result (IfSome (D.state dev.old).held (λ image. AreKept image (kept_texts walk.new))) }
     ensures kept { OnlyReads (D.state dev.old) (D.state dev.new) }
     ensures faults { Fails result (D.state dev.old).faults (D.state dev.new).faults (K.state printer.old.out.now).faults (K.state printer.new.out.now).faults }
 {
@@ -148,7 +107,7 @@ fn add_devices<D: Device, K: Sink>(
             Err(_) => return Err(QueryFault::Device),
         };
         match row {
-            Some(row) => add_device(&row, runs, dev, printer, counts)?,
+            Some(row) => add_device(&row, walk, dev, printer, counts)?,
             None => return Ok(()),
         }
     }
@@ -158,12 +117,13 @@ fn add_devices<D: Device, K: Sink>(
 pub(crate) fn add_pool<D: Device, K: Sink>(
     s: &ThinSuper,
     devices: &mut ThinDevices,
-    runs: &mut MapRuns,
+    walk: &mut DeviceWalk,
     dev: &mut D,
     printer: &mut Printer<'_, K>,
     counts: &mut DumpCounts,
 ) -> Result<(), QueryFault>
     requires dev { IsAttached (D.state dev.old) }
+    requires kept { IfSome (D.state dev.old).held (λ image. AreKept image (kept_texts walk.old)) }
     requires open { (K.state printer.old.out.now).access ≡ 1 }
     ensures same_reference { printer.new.out.ghost_name ≡ printer.old.out.ghost_name }
     ensures prints { PrintsSome (D.state dev.old).held (λ image. text_of_line thin p.first_line ++ (text_of_line thin (p.pool_line (super_head s.now)) ++ rest_text image devices.old)) result (printing K.state printer.old) (printing K.state printer.new) }
@@ -173,7 +133,7 @@ pub(crate) fn add_pool<D: Device, K: Sink>(
 {
     add_first_line(printer, counts)?;
     add_line(&pool_line(s), printer, counts)?;
-    add_devices(devices, runs, dev, printer, counts)?;
+    add_devices(devices, walk, dev, printer, counts)?;
     add_end_line(printer, counts)
 }
 

@@ -2,6 +2,7 @@ use Rattle.std.proofs.Common.{ℕ, ◌+◌, List, drop, ap, ◌∙◌, arith}
 use Rattle.std.proofs.lemmas.List.{drop_all}
 use Rattle.pd_grammar.specs.Texts.{text_of_lines}
 use Rattle.pd_image.proofs.ReadLemmas.{only_reads_both}
+use Rattle.pd_lines.specs.Printer.{printing}
 use Rattle.pd_spells.specs.ThinText.{thin}
 use Rattle.pd_shared_leaves.specs.Leaves.{shared_blocks}
 use Rattle.pd_query.specs.SharedLines.{leaves_lines}
@@ -13,7 +14,7 @@ pub returns-in_err-add_leaf-clause-prints : goal.returns-in_err-add_leaf-clause-
 returns-in_err-add_leaf-clause-prints g c =
     let shared = shared_blocks c.args.shared.now in
     let within = c.loop-number-test.true in
-    lost_with (g.D.Device.state c.args.dev.now).held c.from_residual.result c.from_residual.ensures.0
+    lost_with (g.D.Device.state c.args.dev.now).held {new = printing g.K.Sink.state c.add_leaf.new.printer} c.from_residual.result c.from_residual.ensures.0
     (so_far_lost (g.D.Device.state c.args.dev.now).held (λ image. text_of_lines thin (leaves_lines image (c.loop-number.number + 1) (drop (c.loop-number.number + 1) shared))) c.loop-number.invariant.so_far
     (each_told (g.D.Device.state c.args.dev.now).held (λ image. leaf_first image shared c.loop-number.number (omega arith)))
     (rw (c.loop-number.invariant.kept.held, c.block.ensures) at c.in_err-add_leaf.ensures.prints))

@@ -1,6 +1,7 @@
 use Rattle.std.proofs.Common.{Some, None, Err, IfSome, map, ap, ◌∙◌, subst}
 use Rattle.pd_grammar.specs.Texts.{text_of_lines}
 use Rattle.pd_image.proofs.ReadLemmas.{only_reads_both}
+use Rattle.pd_lines.specs.Printer.{printing}
 use Rattle.pd_spells.specs.ThinText.{thin}
 use Rattle.pd_tree.specs.Next.{IsNext}
 use Rattle.pd_shared_leaves.specs.declared.pieces.Piece.{Piece}
@@ -19,7 +20,7 @@ returns-in-Err-clause-prints g c = so_far_stops (g.D.Device.state c.args.dev.now
 pub returns-in_err-print_piece-in-Some-clause-prints : goal.returns-in_err-print_piece-in-Some-clause-prints
 returns-in_err-print_piece-in-Some-clause-prints g c =
     let shared = shared_blocks c.args.shared.now in
-    lost_with (g.D.Device.state c.args.dev.now).held c.from_residual.result c.from_residual.ensures.0
+    lost_with (g.D.Device.state c.args.dev.now).held {new = printing g.K.Sink.state c.print_piece.new.printer} c.from_residual.result c.from_residual.ensures.0
     (so_far_lost (g.D.Device.state c.args.dev.now).held (λ image. text_of_lines thin (map piece_line (pieces_left shared image c.next.new.self))) c.loop-piece.invariant.so_far
     (one_told (g.D.Device.state c.args.dev.now).held (λ image next. piece_first c.in-Some.piece (pieces_left shared image c.loop-piece.pieces) (pieces_left shared image c.next.new.self) next)
     (subst (λ o. IfSome o (λ image. IsNext {X = Piece} (Some c.in-Some.piece) (pieces_left shared image c.loop-piece.pieces) (pieces_left shared image c.next.new.self))) c.loop-piece.invariant.kept.held

@@ -2,6 +2,7 @@ use Rattle.std.proofs.Common.{Some, None, IfSome, ap, ◌∙◌, subst}
 use Rattle.std.specs.List.{flat_map}
 use Rattle.pd_grammar.specs.Texts.{text_of_lines}
 use Rattle.pd_image.proofs.ReadLemmas.{only_reads_both}
+use Rattle.pd_lines.specs.Printer.{printing}
 use Rattle.pd_spells.specs.ThinText.{thin}
 use Rattle.pd_tree.specs.Next.{IsNext}
 use Rattle.pd_thin_meaning.specs.declared.devices.DeviceRow.{DeviceRow}
@@ -19,7 +20,7 @@ returns-in-Err-clause-prints g c = so_far_stops (g.D.Device.state c.args.dev.now
 pub returns-in_err-add_sharing_device-in-Some-clause-prints : goal.returns-in_err-add_sharing_device-in-Some-clause-prints
 returns-in_err-add_sharing_device-in-Some-clause-prints g c =
     let shared = shared_blocks c.args.shared.now in
-    lost_with (g.D.Device.state c.args.dev.now).held c.from_residual.result c.from_residual.ensures.0
+    lost_with (g.D.Device.state c.args.dev.now).held {new = printing g.K.Sink.state c.add_sharing_device.new.printer} c.from_residual.result c.from_residual.ensures.0
     (so_far_lost (g.D.Device.state c.args.dev.now).held (λ image. text_of_lines thin (flat_map (sharing_lines shared image) (rows_left image c.next.new.self))) c.loop-row.invariant.so_far
     (one_told (g.D.Device.state c.args.dev.now).held (λ image next. sharing_first shared image c.in-Some.row (rows_left image c.loop-row.devices) (rows_left image c.next.new.self) next)
     (subst (λ o. IfSome o (λ image. IsNext {X = DeviceRow} (Some c.in-Some.row) (rows_left image c.loop-row.devices) (rows_left image c.next.new.self))) c.loop-row.invariant.kept.held

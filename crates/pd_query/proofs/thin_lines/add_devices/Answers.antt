@@ -1,5 +1,6 @@
 use Rattle.std.proofs.Common.{Some, None, IfSome, ap, ◌∙◌, subst}
 use Rattle.pd_image.proofs.ReadLemmas.{only_reads_both}
+use Rattle.pd_lines.specs.Printer.{printing}
 use Rattle.pd_tree.specs.Next.{IsNext}
 use Rattle.pd_thin_meaning.specs.declared.devices.DeviceRow.{DeviceRow}
 use Rattle.pd_thin_meaning.specs.Devices.{rows_left}
@@ -17,7 +18,7 @@ returns-in-Err-clause-prints g c = so_far_stops (g.D.Device.state c.args.dev.now
 
 pub returns-in_err-add_device-in-Some-clause-prints : goal.returns-in_err-add_device-in-Some-clause-prints
 returns-in_err-add_device-in-Some-clause-prints g c =
-    lost_with (g.D.Device.state c.args.dev.now).held c.from_residual.result c.from_residual.ensures.0
+    lost_with (g.D.Device.state c.args.dev.now).held {new = printing g.K.Sink.state c.add_device.new.printer} c.from_residual.result c.from_residual.ensures.0
     (so_far_lost (g.D.Device.state c.args.dev.now).held (λ image. rows_text image (rows_left image c.next.new.self)) c.loop-row.invariant.so_far
     (one_told (g.D.Device.state c.args.dev.now).held (λ image next. row_first image c.in-Some.row (rows_left image c.loop-row.devices) (rows_left image c.next.new.self) next)
     (subst (λ o. IfSome o (λ image. IsNext {X = DeviceRow} (Some c.in-Some.row) (rows_left image c.loop-row.devices) (rows_left image c.next.new.self))) c.loop-row.invariant.kept.held
@@ -30,6 +31,9 @@ returns-in-None-clause-prints g c =
     (one_told (g.D.Device.state c.args.dev.now).held (λ image none. ap (rows_text image) none.0)
     (subst (λ o. IfSome o (λ image. IsNext {X = DeviceRow} None (rows_left image c.loop-row.devices) (rows_left image c.next.new.self))) c.loop-row.invariant.kept.held
     (rw c.in-None.is at c.in-Ok.ensures.next)))
+
+pub add_device-requires-clause-kept : goal.add_device-requires-clause-kept
+add_device-requires-clause-kept g c = rw (only_reads_both c.loop-row.invariant.kept c.in-Ok.ensures.kept).held c.loop-row.invariant.texts
 
 pub loop-row-preserved : goal.loop-row-preserved
 loop-row-preserved g c =
@@ -46,6 +50,7 @@ loop-row-preserved g c =
           (subst (λ o. IfSome o (λ image. IsNext {X = DeviceRow} (Some c.in-Some.row) (rows_left image c.loop-row.devices) (rows_left image c.next.new.self))) c.loop-row.invariant.kept.held
           (rw c.in-Some.is at c.in-Ok.ensures.next)))
           (rw (only_reads_both c.loop-row.invariant.kept c.in-Ok.ensures.kept).held at c.in_ok-add_device-in-Some.ensures.counted);
+      texts = rw (only_reads_both c.loop-row.invariant.kept c.in-Ok.ensures.kept).held at c.in_ok-add_device-in-Some.ensures.texts;
       kept = only_reads_both (only_reads_both c.loop-row.invariant.kept c.in-Ok.ensures.kept) c.in_ok-add_device-in-Some.ensures.kept;
       dev_faults = c.in_ok-add_device-in-Some.ensures.faults.0 ∙ (c.in-Ok.ensures.faults ∙ c.loop-row.invariant.dev_faults);
       out_faults = c.in_ok-add_device-in-Some.ensures.faults.1 ∙ c.loop-row.invariant.out_faults;

@@ -1,7 +1,9 @@
-use Rattle.std.proofs.Common.{◌≡◌}
+use Rattle.std.proofs.Common.{◌≡◌, IfSome}
 use Rattle.pd_image.specs.Device.{OnlyReads}
 use Rattle.pd_lines.specs.Printer.{printing}
 use Rattle.pd_thin_meaning.specs.Devices.{rows_left, rows_number}
+use Rattle.pd_query.specs.DeviceWalk.{kept_texts}
+use Rattle.pd_query.specs.LeafText.{AreKept}
 use Rattle.pd_query.specs.ThinText.{rows_text}
 use Rattle.std.specs.List.{flat_map}
 use Rattle.pd_thin_meaning.specs.Given.{row_lines}
@@ -15,6 +17,7 @@ invariant-loop-row g l = record {
   so_far : PrintsSoFar (g.D.Device.state l.initial.dev).held (λ image. rows_text image (rows_left image l.initial.devices)) (λ image. rows_text image (rows_left image l.devices))
       (printing g.K.Sink.state l.initial.printer) (printing g.K.Sink.state l.printer);
   counted : CountsSoFar (g.D.Device.state l.initial.dev).held (λ image. flat_map (row_lines image) (rows_left image l.initial.devices)) (λ image. flat_map (row_lines image) (rows_left image l.devices)) l.initial.counts l.counts;
+  texts : IfSome (g.D.Device.state l.initial.dev).held (λ image. AreKept image (kept_texts l.walk));
   kept : OnlyReads (g.D.Device.state l.initial.dev) (g.D.Device.state l.dev);
   dev_faults : (g.D.Device.state l.dev).faults ≡ (g.D.Device.state l.initial.dev).faults;
   out_faults : (g.K.Sink.state l.printer.out.now).faults ≡ (g.K.Sink.state l.initial.printer.out.now).faults;

@@ -6,8 +6,11 @@ use Rattle.pd_lines.specs.Printer.{printing}
 use Rattle.pd_query.specs.Puts.{PutsText}
 use Rattle.pd_query.specs.ThinDump.{lines_left, text_left}
 use Rattle.pd_query.proofs.CountLemmas.{counts_whole}
-use Rattle.pd_query.proofs.PutsLemmas.{text_lost, text_put, text_stopped}
+use Rattle.pd_query.proofs.PutsLemmas.{each_told, text_lost, text_put, text_stopped}
 use Rattle.pd_query.proofs.thin_dump.ThinDump.put_counted.Goals as goal
+
+pub add_pool-requires-clause-kept : goal.add_pool-requires-clause-kept
+add_pool-requires-clause-kept g c = rw c.clear.ensures (each_told (g.D.Device.state c.args.dev.now).held (λ image. tt))
 
 pub returns-in-Ok-clause-text : goal.returns-in-Ok-clause-text
 returns-in-Ok-clause-text g c =
