@@ -84,6 +84,7 @@ pub struct TextOfCache;
 impl Query for TextOfCache {
     ghost use Rattle.std.specs.Prelude.{◌≡◌};
     ghost use Rattle.pd_kinds.specs.declared.kind.Kind.TheVariants.{Cache};
+    ghost use Rattle.pd_kinds.specs.declared.kind.Stage.TheVariants.{Whole};
     ghost use Rattle.pd_kinds.specs.Meaning.{cache_meaning};
     ghost use Rattle.pd_spells.specs.CacheText.{text_of_cache};
     ghost use Rattle.pd_query.specs.Sound.{IfSound};
@@ -92,6 +93,8 @@ impl Query for TextOfCache {
     type Started = CacheDump;
 
     ghost kind = { Cache };
+
+    ghost stage = { Whole };
 
     ghost answer = { λ query image. text_of_cache (cache_meaning image) };
 

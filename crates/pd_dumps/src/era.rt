@@ -77,6 +77,7 @@ pub struct TextOfEra;
 impl Query for TextOfEra {
     ghost use Rattle.std.specs.Prelude.{◌≡◌};
     ghost use Rattle.pd_kinds.specs.declared.kind.Kind.TheVariants.{Era};
+    ghost use Rattle.pd_kinds.specs.declared.kind.Stage.TheVariants.{Whole};
     ghost use Rattle.pd_kinds.specs.Meaning.{era_meaning};
     ghost use Rattle.pd_spells.specs.EraText.{text_of_era};
     ghost use Rattle.pd_query.specs.Sound.{IfSound};
@@ -85,6 +86,8 @@ impl Query for TextOfEra {
     type Started = EraDump;
 
     ghost kind = { Era };
+
+    ghost stage = { Whole };
 
     ghost answer = { λ query image. text_of_era (era_meaning image) };
 

@@ -52,6 +52,7 @@ pub struct WrittenSince {
 impl Query for WrittenSince {
     ghost use Rattle.std.specs.Prelude.{◌≡◌};
     ghost use Rattle.pd_kinds.specs.declared.kind.Kind.TheVariants.{Era};
+    ghost use Rattle.pd_kinds.specs.declared.kind.Stage.TheVariants.{Whole};
     ghost use Rattle.pd_kinds.specs.EraFormat.{era_fields};
     ghost use Rattle.pd_kinds.specs.Graph.{block_at};
     ghost use Rattle.pd_kinds.specs.Meaning.{era_meaning};
@@ -61,6 +62,8 @@ impl Query for WrittenSince {
     type Started = EraSuper;
 
     ghost kind = { Era };
+
+    ghost stage = { Whole };
 
     ghost answer = { λ query image. since_lines query.era (era_meaning image) };
 

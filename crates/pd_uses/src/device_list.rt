@@ -179,6 +179,7 @@ pub struct DeviceList;
 impl Query for DeviceList {
     ghost use Rattle.std.specs.Prelude.{◌≡◌};
     ghost use Rattle.pd_kinds.specs.declared.kind.Kind.TheVariants.{Thin};
+    ghost use Rattle.pd_kinds.specs.declared.kind.Stage.TheVariants.{Whole};
     ghost use Rattle.pd_kinds.specs.Graph.{block_at};
     ghost use Rattle.pd_kinds.specs.Meaning.{thin_meaning};
     ghost use Rattle.pd_kinds.specs.ThinSuper.{thin_fields};
@@ -188,6 +189,8 @@ impl Query for DeviceList {
     type Started = ThinSuper;
 
     ghost kind = { Thin };
+
+    ghost stage = { Whole };
 
     ghost answer = { λ query image. device_list_lines (thin_meaning image) };
 

@@ -158,6 +158,7 @@ pub struct ReverseMap {
 impl Query for ReverseMap {
     ghost use Rattle.std.specs.Prelude.{◌≡◌};
     ghost use Rattle.pd_kinds.specs.declared.kind.Kind.TheVariants.{Thin};
+    ghost use Rattle.pd_kinds.specs.declared.kind.Stage.TheVariants.{Whole};
     ghost use Rattle.pd_kinds.specs.Graph.{block_at};
     ghost use Rattle.pd_kinds.specs.Meaning.{thin_meaning};
     ghost use Rattle.pd_kinds.specs.ThinSuper.{thin_fields};
@@ -167,6 +168,8 @@ impl Query for ReverseMap {
     type Started = ThinSuper;
 
     ghost kind = { Thin };
+
+    ghost stage = { Whole };
 
     ghost answer = { λ query image. rmap_lines query.first query.end (thin_meaning image) };
 
