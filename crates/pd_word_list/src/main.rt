@@ -1,4 +1,4 @@
-//! Prints what can be given to each tool, a line a tool, for the scripts that keep lists of words.
+//! Prints what can be given to each tool, a line a form of it, for the scripts that keep lists of words.
 #![tactic(auto)]
 
 use pd_words::{IMAGE, Need, TOOLS, ToolWords, Value, Word};
@@ -11,7 +11,7 @@ fn main(rt: HostRuntime) -> io::Result<()> {
     Ok(())
 }
 
-/// Puts the name of a tool and its words. What may be left out stands in brackets, and so do words that go together.
+/// Puts the name of a tool and the words of a form of it. What may be left out stands in brackets, and so do words that go together.
 fn put_tool(rt: &impl Print, row: &ToolWords) -> io::Result<()> {
     print!(rt; "{}", row.name)?;
     let mut is_open = false;
@@ -34,6 +34,7 @@ fn put_word(rt: &impl Print, word: &Word) -> io::Result<()> {
     }
     match word.need {
         Need::Flag => print!(rt; "[{}]", word.name),
+        Need::Mark => print!(rt; "{}", word.name),
         Need::Wanted(value) => print!(rt; "{} {}", word.name, shown(value)),
         Need::Optional(value) => print!(rt; "[{} {}]", word.name, shown(value)),
         Need::Together(value) => print!(rt; "{} {}", word.name, shown(value)),

@@ -20,7 +20,7 @@ abbrev pub asked_of : Option ToolWords → Option (List Item) → Option Request
 asked_of tool items = option_and_then (λ (row : ToolWords). option_and_then (request_of row.tool) (known row.words items)) tool
 
 pub asked_first : {X : Type 0} (f : X → List ℕ) (xs : List X) (x : X) (word : List ℕ) → (length xs == 0) ≡ false → x ≡ get_or xs 0 x → word ≡ f x
-    → asked (map f xs) ≡ asked_of (tool_of word) (items_of (drop 1 (map f xs)))
+    → asked (map f xs) ≡ asked_of (tool_of word (items_of (drop 1 (map f xs)))) (items_of (drop 1 (map f xs)))
 unfolding asked
 asked_first f [] x word some at is = absurd (true≢false some)
 asked_first f (y ∷ ys) x word some at is =

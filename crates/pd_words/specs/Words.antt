@@ -6,7 +6,7 @@ use Rattle.pd_words.specs.declared.request.Asked.TheVariants as code
 use Rattle.pd_words.specs.declared.request.ImageQuery.{ImageQuery}
 use Rattle.pd_words.specs.declared.request.Name.{Name}
 use Rattle.pd_words.specs.declared.request.Request.{Request}
-use Rattle.pd_words.specs.declared.request.Request.TheVariants.{Check, PassingCheck, CheckAndClear, Dump, DumpShared, Restore, Repair, Search, RepairCache, Rmap, List as ListDevices, Since, Generate, Rehearse, Writeback, Shrink}
+use Rattle.pd_words.specs.declared.request.Request.TheVariants.{Check, PassingCheck, CheckAndClear, Dump, DumpShared, Restore, Repair, Search, DryRun, RepairCache, Rmap, List as ListDevices, Since, Generate, Rehearse, Writeback, Shrink}
 use Rattle.pd_words.specs.declared.request.WordFault.{WordFault}
 use Rattle.pd_words.specs.Items.{word_at}
 use Rattle.pd_answers.specs.QueryLines as ask
@@ -26,6 +26,7 @@ asked_as code.SharedText = ask.shared_text
 asked_as (code.ReverseMap first end) = ask.reverse_map first end
 asked_as code.DeviceList = ask.device_list
 asked_as (code.Since era) = ask.since era
+asked_as code.Kept = ask.kept
 
 -- the request as the definitions speak of it, with the words that its names stand for
 abbrev pub request_as : List (List ℕ) → Request → requests.Request
@@ -38,6 +39,7 @@ request_as words (Restore kind text image version) = requests.restore kind versi
 request_as words (Repair input output shared) = requests.repair shared (word_of words input) (word_of words output)
 request_as words (Search input output shared transaction block_size blocks) =
     requests.search shared (word_of words input) (word_of words output) transaction block_size blocks
+request_as words (DryRun input) = requests.query ask.kept None (word_of words input)
 request_as words (RepairCache input output version) = requests.repair_cache version (word_of words input) (word_of words output)
 request_as words (Rmap first end image out) = requests.query (ask.reverse_map first end) (words_of words out) (word_of words image)
 request_as words (ListDevices image out) = requests.query ask.device_list (words_of words out) (word_of words image)
@@ -100,6 +102,7 @@ AreNames number (DumpShared image out) = IsName number image × IsNameIfAny numb
 AreNames number (Restore kind text image version) = IsName number text × IsName number image × IsVersion version
 AreNames number (Repair input output shared) = IsName number input × IsName number output
 AreNames number (Search input output shared transaction block_size blocks) = IsName number input × IsName number output × IsPoolSize blocks
+AreNames number (DryRun input) = IsName number input
 AreNames number (RepairCache input output version) = IsName number input × IsName number output × IfSome version IsVersion
 AreNames number (Rmap first end image out) = IsName number image × IsNameIfAny number out
 AreNames number (ListDevices image out) = IsName number image × IsNameIfAny number out

@@ -75,6 +75,10 @@ pub enum Request {
         block_size: u32,
         blocks: u64,
     },
+    /// What a repair would keep of an image; nothing is written.
+    DryRun {
+        input: Name,
+    },
     /// An image of what can be saved of a cache, with this version of the metadata, or else its own.
     RepairCache {
         input: Name,
@@ -165,6 +169,11 @@ impl Request {
                 image,
                 out,
             }),
+            Request::DryRun { input } => Some(ImageQuery {
+                asked: Asked::Kept,
+                image: input,
+                out: None,
+            }),
             Request::Check { .. }
             | Request::PassingCheck { .. }
             | Request::CheckAndClear { .. }
@@ -201,10 +210,12 @@ pub enum Asked {
     DeviceList,
     /// The blocks of an era target that were written in this era or later.
     Since { era: u32 },
+    /// What a repair of a pool would keep.
+    Kept,
 }
 
 impl Asked {
-    ghost use Rattle.pd_answers.specs.QueryLines.{asked_kind};
+    ghost use Rattle.pd_answers.specs.QueryLines.{asked_kind, asked_stage};
     ghost use Rattle.pd_words.specs.Words.{asked_as};
 
     /// The kind of metadata that is asked about.
@@ -213,8 +224,24 @@ impl Asked {
     {
         match self {
             Asked::Text(kind) => kind,
-            Asked::SharedText | Asked::ReverseMap { .. } | Asked::DeviceList => Kind::Thin,
+            Asked::SharedText | Asked::ReverseMap { .. } | Asked::DeviceList | Asked::Kept => {
+                Kind::Thin
+            }
             Asked::Since { .. } => Kind::Era,
+        }
+    }
+
+    /// The stage up to which the metadata must be without faults.
+    pub fn stage(self) -> Stage
+        ensures { result ≡ asked_stage (asked_as self) }
+    {
+        match self {
+            Asked::Kept => Stage::Super,
+            Asked::Text(_)
+            | Asked::SharedText
+            | Asked::ReverseMap { .. }
+            | Asked::DeviceList
+            | Asked::Since { .. } => Stage::Whole,
         }
     }
 }

@@ -2,8 +2,7 @@
 
 ghost use Rattle.std.specs.Prelude.{◌≡◌, map};
 ghost use Rattle.std.specs.List.{list_any};
-ghost use Rattle.std.specs.Option.{option_map};
-ghost use Rattle.pd_answers.specs.Words.{is_flag, is_named, is_named_flag, is_flag_need, tool_in, tool_of};
+ghost use Rattle.pd_answers.specs.Words.{is_flag, is_named, is_named_flag, is_flag_need};
 ghost use Rattle.pd_words.specs.Table.{has_flag, need_as, row_as, word_as};
 
 use pd_kinds::Kind;
@@ -19,6 +18,8 @@ pub enum Tool {
     Restore(Kind),
     /// thin_repair
     Repair,
+    /// thin_repair --dry-run
+    DryRepair,
     /// cache_repair
     RepairCache,
     /// thin_rmap
@@ -61,6 +62,8 @@ pub enum Value {
 pub enum Need {
     /// Once or not at all, without a value.
     Flag,
+    /// Once, without a value.
+    Mark,
     /// Once, with a value.
     Wanted(Value),
     /// Once or not at all, with a value.
@@ -76,7 +79,7 @@ pub struct Word {
     pub need: Need,
 }
 
-/// A tool, its name, and what can be given to it.
+/// A form of a tool: the tool's name, and what can be given to it.
 #[derive(Clone, Copy)]
 pub struct ToolWords {
     pub name: &'static str,
@@ -150,6 +153,12 @@ pub(crate) const OUTPUT: Word = Word {
     need: Need::Wanted(Value::Device),
 };
 
+/// That nothing is written, but told what would be.
+pub(crate) const DRY_RUN: Word = Word {
+    name: "--dry-run",
+    need: Need::Mark,
+};
+
 /// The version of a cache's metadata.
 pub(crate) const VERSION: Word = Word {
     name: "--metadata-version",
@@ -210,8 +219,9 @@ pub(crate) const BLOCKS: Word = Word {
     need: Need::Wanted(Value::UpTo(u64::MAX)),
 };
 
-/// The tools, and what can be given to each.
-pub static TOOLS: [ToolWords; 18] = [
+/// The forms of the tools, and what can be given to each. A tool whose name stands twice has two forms, and takes the first that
+/// has all words that are given.
+pub static TOOLS: [ToolWords; 19] = [
     ToolWords {
         name: "thin_check",
         tool: Tool::Check(Kind::Thin),
@@ -263,6 +273,11 @@ pub static TOOLS: [ToolWords; 18] = [
         words: &[SHARED, INPUT, OUTPUT, TRANSACTION, BLOCK_SIZE, DATA_BLOCKS],
     },
     ToolWords {
+        name: "thin_repair",
+        tool: Tool::DryRepair,
+        words: &[DRY_RUN, SHARED, INPUT],
+    },
+    ToolWords {
         name: "cache_repair",
         tool: Tool::RepairCache,
         words: &[VERSION, INPUT, OUTPUT],
@@ -304,25 +319,6 @@ pub static TOOLS: [ToolWords; 18] = [
     },
 ];
 
-/// The row of the tool of this name.
-pub(crate) fn row_named(rows: &[ToolWords], name: &str) -> Option<ToolWords>
-    ensures { option_map row_as result ≡ tool_in (map row_as rows.now) name.now }
-{
-    for row in rows {
-        if name == row.name {
-            return Some(*row);
-        }
-    }
-    None
-}
-
-/// The tool of this name, with its words.
-pub(crate) fn tool_named(name: &str) -> Option<ToolWords>
-    ensures { option_map row_as result ≡ tool_of name.now }
-{
-    row_named(&TOOLS, name)
-}
-
 /// Whether one of the words has this name.
 pub(crate) fn has_word(words: &[Word], name: &str) -> bool
     ensures { result ≡ list_any (is_named name.now) (map word_as words.now) }
@@ -341,6 +337,7 @@ fn is_flag_need(need: Need) -> bool
 {
     match need {
         Need::Flag => true,
+        Need::Mark => true,
         Need::Wanted(_) => false,
         Need::Optional(_) => false,
         Need::Together(_) => false,

@@ -11,13 +11,14 @@ ghost use Rattle.pd_words.specs.Numbers.{region_as};
 ghost use Rattle.pd_words.specs.Table.{tool_as};
 ghost use Rattle.pd_words.specs.Words.{read_as, answer_as, word_of, words_of, AreNames, IsGenerated, IsName, IsNameIfAny, IsPoolSize, IsVersion};
 
+use crate::forms::tool_named;
 use crate::items::{Given, are_items_of, given_for};
 use crate::numbers::{Region, number, number_up_to, read_region};
 use crate::request::{Name, Request, WordFault};
 use crate::table::{
-    BLOCK_SIZE, BLOCKS, CLEAR, DATA, DATA_BLOCKS, FAST, FILE, IMAGE, INPUT, METADATA, NUMBER,
-    ORIGIN, OUTPUT, PASSING, REGION, SHARED, SINCE, TEXT, TRANSACTION, Tool, UNTIL, VERSION, Word,
-    tool_named,
+    BLOCK_SIZE, BLOCKS, CLEAR, DATA, DATA_BLOCKS, DRY_RUN, FAST, FILE, IMAGE, INPUT, METADATA,
+    NUMBER, ORIGIN, OUTPUT, PASSING, REGION, SHARED, SINCE, TEXT, TRANSACTION, Tool, UNTIL,
+    VERSION, Word,
 };
 use pd_kinds::{Flagged, Kind, Passing, Stage};
 
@@ -34,7 +35,7 @@ pub fn read_words(words: &[String]) -> Result<Request, WordFault>
     if words.is_empty() {
         return Err(WordFault::Usage);
     }
-    match tool_named(words[0].as_str()) {
+    match tool_named(words, words[0].as_str()) {
         None => Err(WordFault::Usage),
         Some(row) => {
             if are_items_of(row.words, words, 1) {
@@ -57,6 +58,7 @@ fn read_request(tool: Tool, words: &[String]) -> Option<Request>
         Tool::Dump(kind) => read_dump(kind, words),
         Tool::Restore(kind) => read_restore(kind, words),
         Tool::Repair => read_repair(words),
+        Tool::DryRepair => read_dry_repair(words),
         Tool::RepairCache => read_repair_cache(words),
         Tool::ReverseMap => read_rmap(words),
         Tool::DeviceList => read_device_list(words),
@@ -226,6 +228,19 @@ fn repair_with(
             },
         },
     }
+}
+
+/// What the words ask of a repair that writes nothing. Whether leaves are shared changes nothing of what is told.
+#[tactic(auto, unfolding(pd_answers::specs::Words::request_of))]
+fn read_dry_repair(words: &[String]) -> Option<Request>
+    requires { AreItems (map string_bytes words.now) }
+    ensures asked { read_as (map string_bytes words.now) result ≡ words_spec.request_of tools_spec.dry_repair_tool (items_in (map string_bytes words.now)) }
+    ensures names { IfSome result (AreNames (length words.now)) }
+{
+    let _dry_run = required(words, DRY_RUN)?;
+    let _shared = flag(words, SHARED)?;
+    let input = required(words, INPUT)?;
+    Some(Request::DryRun { input })
 }
 
 /// What the words ask of a cache's repair.

@@ -30,11 +30,11 @@ returns-then-are_items_of-clause-asked c =
     let first = asked_first string_bytes c.args.words.now c.index-words-0.result c.as_str.result.now (sym c.is_empty.ensures ∙ c.if-is_empty.false) c.index-words-0.is c.as_str.ensures.value in
     rw c.ok_or.ensures.value
     (answered words c.read_request.result _
-    ∙ (all_known (tool_of c.as_str.result.now) (row_as c.in-Some.row) words (read_as words c.read_request.result) (sym c.in-Some.ensures) (sym c.are_items_of.ensures ∙ c.if-are_items_of.true) c.read_request.ensures.asked
+    ∙ (all_known (tool_of c.as_str.result.now (items_of (drop 1 (map string_bytes c.args.words.now)))) (row_as c.in-Some.row) words (read_as words c.read_request.result) (sym c.in-Some.ensures) (sym c.are_items_of.ensures ∙ c.if-are_items_of.true) c.read_request.ensures.asked
     ∙ sym first))
 
 pub returns-else-are_items_of-clause-asked : goal.returns-else-are_items_of-clause-asked
 returns-else-are_items_of-clause-asked c =
     let first = asked_first string_bytes c.args.words.now c.index-words-0.result c.as_str.result.now (sym c.is_empty.ensures ∙ c.if-is_empty.false) c.index-words-0.is c.as_str.ensures.value in
-    not_known (tool_of c.as_str.result.now) (row_as c.in-Some.row) (items_of (drop 1 (map string_bytes c.args.words.now))) (sym c.in-Some.ensures) (sym c.are_items_of.ensures ∙ c.if-are_items_of.false)
+    not_known (tool_of c.as_str.result.now (items_of (drop 1 (map string_bytes c.args.words.now)))) (row_as c.in-Some.row) (items_of (drop 1 (map string_bytes c.args.words.now))) (sym c.in-Some.ensures) (sym c.are_items_of.ensures ∙ c.if-are_items_of.false)
     ∙ sym first

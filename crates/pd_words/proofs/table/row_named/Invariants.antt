@@ -1,7 +1,0 @@
-use Rattle.std.proofs.Common.{◌≡◌, map, drop}
-use Rattle.pd_answers.specs.Words.{tool_in}
-use Rattle.pd_words.specs.Table.{row_as}
-use Rattle.pd_words.proofs.table.row_named.Given as goal
-
-abbrev pub invariant-loop-row : goal.invariant-loop-row
-invariant-loop-row l = tool_in (map row_as l.rows) l.name ≡ tool_in (map row_as (drop l.row-index l.rows)) l.name
