@@ -18,4 +18,6 @@ pub mod OverflowingLemmas
 pub mod SavedNeedLemmas
 pub mod ShapeNeedLemmas
 pub mod ShapePartLemmas
+pub mod PlainNeedLemmas
+pub mod PlainDataLemmas
 pub mod MadeLemmas

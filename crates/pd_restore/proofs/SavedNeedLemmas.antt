@@ -97,27 +97,25 @@ unfolding pool_of thin_need
 need_is saved sound room =
     rw (sym (parts_mapped saved.devices saved.runs), sym (parts_data saved.devices saved.runs sound.number)) refl
 
--- of some blocks behind others all but those of the runs that are left were counted
-pub record CountsFirst (counts : Counted) (all : List ℕ) (left : List SavedRun) : Type 0 where
+-- of some blocks all but these last ones were counted
+pub record CountsFirst (counts : Counted) (all rest : List ℕ) : Type 0 where
   pub first : List ℕ
   pub counted : HasCountedThrice counts first
-  pub rest : first ++ data_of_runs left ≡ all
+  pub joined : first ++ rest ≡ all
 
--- one run more
-pub counts_next : (old new : Counted) (all : List ℕ) (left later : List SavedRun) (r : SavedRun) (counts : CountsFirst old all left) → left ≡ r ∷ later
-    → HasCountedThrice new (counts.first ++ range_with_len r.target r.length) → CountsFirst new all later
-counts_next old new all left later r counts is more = record {
-  first = counts.first ++ range_with_len r.target r.length;
-  counted = more;
-  rest =
-      append_assoc counts.first (range_with_len r.target r.length) (data_of_runs later)
-      ∙ (ap (λ (runs : List SavedRun). counts.first ++ data_of_runs runs) (sym is) ∙ counts.rest);
+-- some more of them
+pub counts_next : (old new : Counted) (all rest more later : List ℕ) (counts : CountsFirst old all rest) → rest ≡ more ++ later
+    → HasCountedThrice new (counts.first ++ more) → CountsFirst new all later
+counts_next old new all rest more later counts is counted = record {
+  first = counts.first ++ more;
+  counted = counted;
+  joined = append_assoc counts.first more later ∙ (ap (λ (blocks : List ℕ). counts.first ++ blocks) (sym is) ∙ counts.joined);
 }
 
 -- all of them
-pub counts_all : (counted : Counted) (all : List ℕ) (left : List SavedRun) → CountsFirst counted all left → left ≡ [] → HasCountedThrice counted all
-counts_all counted all left counts none =
-    subst (HasCountedThrice counted) (sym (append-nil counts.first) ∙ (ap (λ (runs : List SavedRun). counts.first ++ data_of_runs runs) (sym none) ∙ counts.rest)) counts.counted
+pub counts_all : (counted : Counted) (all rest : List ℕ) → CountsFirst counted all rest → rest ≡ [] → HasCountedThrice counted all
+counts_all counted all rest counts none =
+    subst (HasCountedThrice counted) (sym (append-nil counts.first) ∙ (ap (λ (blocks : List ℕ). counts.first ++ blocks) (sym none) ∙ counts.joined)) counts.counted
 
 -- where all data blocks were counted
 pub over_all : (counts : Counted) (data_blocks : List ℕ) (blocks : ℕ) → counts.size ≡ blocks → HasCountedThrice counts data_blocks → overflows_of counts counts.size ≡ overflows_in data_blocks blocks

@@ -28,7 +28,7 @@ use Rattle.pd_restore.proofs.SavedNeedLemmas.{IsWithin, all_append, part_data, p
 use Rattle.pd_restore.proofs.ShapeNeedLemmas.{parts_need, take_front}
 use Rattle.pd_restore.proofs.ShapeTextLemmas.{leaves_have, parts_have}
 
-abbrev data_of : List Mapping → List ℕ
+abbrev pub data_of : List Mapping → List ℕ
 data_of ms = map (λ (x : Mapping). x.data_block) ms
 
 -- the data blocks of runs, and of others behind them
@@ -39,7 +39,7 @@ data_split : (n : ℕ) (runs : List Run) → data_of_runs (take n runs) ++ data_
 data_split n runs = sym (data_append (take n runs) (drop n runs)) ∙ ap data_of_runs (take-append-drop n runs)
 
 -- the runs behind a leaf's, a piece's and a device's are those of the others
-leaf_rest : (leaf : SavedLeaf) (leaves : List SavedLeaf) (runs : List Run) → sum_by (λ (l : SavedLeaf). l.runs) (leaf ∷ leaves) ≡ length runs
+pub leaf_rest : (leaf : SavedLeaf) (leaves : List SavedLeaf) (runs : List Run) → sum_by (λ (l : SavedLeaf). l.runs) (leaf ∷ leaves) ≡ length runs
     → sum_by (λ (l : SavedLeaf). l.runs) leaves ≡ length (drop leaf.runs runs)
 leaf_rest leaf leaves runs number = omega (arith, number, sum_by-cons (λ (l : SavedLeaf). l.runs) leaf leaves, length-drop leaf.runs runs)
 
@@ -76,7 +76,7 @@ pieces_data (Shared number ∷ ps) runs =
     pieces_data ps runs ∙ ap (λ (n : ℕ). data_of_runs (take n runs)) same
 
 -- those of all devices
-devices_data : (ds : List ShapedDevice) (ps : List SavedPiece) (runs : List Run) → pieces_of ds ≡ length ps → runs_of_pieces ps ≡ length runs
+pub devices_data : (ds : List ShapedDevice) (ps : List SavedPiece) (runs : List Run) → pieces_of ds ≡ length ps → runs_of_pieces ps ≡ length runs
     → data_of (flat_map (λ (d : ShapeDevice). flat_map own_mappings d.pieces) (map device_of_part (device_parts ds ps runs))) ≡ data_of_runs runs
 devices_data [] ps runs pieces number =
     let none : length runs ≡ 0 = sym number ∙ ap runs_of_pieces (nil_from_length ps (sym pieces)) in
@@ -103,7 +103,7 @@ pieces_uses [] runs = refl
 pieces_uses (Own k ∷ ps) runs = pieces_uses ps (drop k runs)
 pieces_uses (Shared number ∷ ps) runs = ap (λ (uses : List ℕ). number ∷ uses) (pieces_uses ps runs)
 
-devices_uses : (ds : List ShapedDevice) (ps : List SavedPiece) (runs : List Run) → pieces_of ds ≡ length ps
+pub devices_uses : (ds : List ShapedDevice) (ps : List SavedPiece) (runs : List Run) → pieces_of ds ≡ length ps
     → flat_map uses_of (map device_of_part (device_parts ds ps runs)) ≡ flat_map uses_of_saved ps
 devices_uses [] ps runs number = rw (nil_from_length ps (sym number)) refl
 devices_uses (d ∷ ds) ps runs number =

@@ -1,5 +1,5 @@
 -- Which data blocks stand three times or more in what was saved.
-use Rattle.std.specs.Prelude.{◌≡◌, ℕ, ◌==◌, min, List, count_by}
+use Rattle.std.specs.Prelude.{◌≡◌, ℕ, zero, suc, ◌==◌, min, List, [], ◌++◌, count_by}
 use Rattle.std.specs.List.{flat_map, range_with_len}
 use Rattle.pd_count.specs.Counted.{Counted, count_of}
 use Rattle.pd_thin_meaning.specs.declared.joined.Run.{Run}
@@ -11,3 +11,8 @@ HasCountedThrice counts blocks = (b : ℕ) → count_of counts b ≡ min (count_
 -- the data blocks of some runs
 abbrev pub data_of_runs : List Run → List ℕ
 data_of_runs runs = flat_map (λ (r : Run). range_with_len r.target r.length) runs
+
+-- so many copies of a list, one behind the other
+unfoldable pub copies : ℕ → List ℕ → List ℕ
+copies zero blocks = []
+copies (suc n) blocks = copies n blocks ++ blocks

@@ -3,8 +3,9 @@
 ghost use Rattle.std.specs.Prelude.{◌≡◌, ℕ, ◌+◌, ◌<◌, ◌≤◌, List, [], ◌∷◌, ◌++◌, IfOk, OnOk};
 ghost use Rattle.std.specs.List.{AllByRecursion, range_with_len};
 ghost use Rattle.pd_thin_meaning.specs.declared.joined.Run.{Run as SavedRun};
+ghost use Rattle.pd_count.specs.Counted.{count_of};
 ghost use Rattle.pd_devices.specs.Counts.{overflows_of};
-ghost use Rattle.pd_restore.specs.Overflowing.{HasCountedThrice, data_of_runs};
+ghost use Rattle.pd_restore.specs.Overflowing.{HasCountedThrice, copies, data_of_runs};
 
 use pd_count::Counts;
 use pd_runs::PackedRuns;
@@ -35,6 +36,32 @@ impl Thrice {
         ensures { result ≡ overflows_of self.now.counts self.now.counts.size }
     {
         self.over
+    }
+
+    /// How often the block was counted, up to three times.
+    pub(crate) fn times(&self, b: u64) -> u32
+        requires { b < self.now.counts.size }
+        ensures { result ≡ count_of self.now.counts b }
+    {
+        self.counts.get(b)
+    }
+
+    /// Counts so many blocks in a row so many times more.
+    pub(crate) fn add_run_times(
+        &mut self,
+        first: u64,
+        length: u64,
+        times: u32,
+    ) -> Result<(), AllocError>
+        requires within { first + length ≤ self.old.counts.size }
+        ensures size { OnOk result (self.new.counts.size ≡ self.old.counts.size) }
+        ensures listed { (before : List ℕ) → HasCountedThrice self.old.counts before
+            → OnOk result (HasCountedThrice self.new.counts (before ++ copies times (range_with_len first length))) }
+    {
+        for _i in 0..times {
+            self.add_run(first, length)?;
+        }
+        Ok(())
     }
 
     /// Counts so many blocks in a row once more.

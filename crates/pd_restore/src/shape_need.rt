@@ -75,11 +75,25 @@ fn often_of(alloc: Global, leaves: u64, pieces: &[SavedPiece]) -> Result<u64, Al
     requires { AllByRecursion (IsUseBelow leaves) pieces.now }
     ensures { IfOk result (λ often. often ≡ overflows_in (flat_map uses_of_saved pieces.now) leaves) }
 {
+    let counted = uses_of(alloc, leaves, pieces)?;
+    Ok(counted.over())
+}
+
+/// How often these pieces use each of so many leaves, up to three times.
+pub(crate) fn uses_of(
+    alloc: Global,
+    leaves: u64,
+    pieces: &[SavedPiece],
+) -> Result<Thrice, AllocError>
+    requires { AllByRecursion (IsUseBelow leaves) pieces.now }
+    ensures size { IfOk result (λ counted. counted.counts.size ≡ leaves) }
+    ensures listed { IfOk result (λ counted. HasCountedThrice counted.counts (flat_map uses_of_saved pieces.now)) }
+{
     let mut counted = Thrice::new(alloc, leaves)?;
     for piece in pieces {
         count_use(&mut counted, piece)?;
     }
-    Ok(counted.over())
+    Ok(counted)
 }
 
 /// Counts the leaf that a piece uses once more, where it uses one.

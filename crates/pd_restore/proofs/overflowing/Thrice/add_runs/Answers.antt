@@ -1,4 +1,5 @@
 use Rattle.std.proofs.Common.{List, ◌++◌, ap, refl, ◌∙◌, arith}
+use Rattle.std.specs.List.{range_with_len}
 use Rattle.pd_runs.specs.Places.{runs_from}
 use Rattle.pd_thin_meaning.specs.declared.joined.Run.{Run as SavedRun}
 use Rattle.pd_restore.specs.Overflowing.{data_of_runs}
@@ -9,7 +10,7 @@ pub loop-run-init : goal.loop-run-init
 loop-run-init c = record {
   size = refl;
   within = rw c.first-place.ensures c.requires.within;
-  listed = λ before counted. record { first = before; counted = counted; rest = ap (λ (runs : List SavedRun). before ++ data_of_runs runs) c.first-place.ensures };
+  listed = λ before counted. record { first = before; counted = counted; joined = ap (λ (runs : List SavedRun). before ++ data_of_runs runs) c.first-place.ensures };
 }
 
 pub add_run-requires : goal.add_run-requires
@@ -26,10 +27,12 @@ loop-run-preserved c =
       within = within.1;
       listed = λ before counted.
           let counts = c.loop-run.invariant.listed before counted in
-          counts_next c.loop-run.self.counts c.add_run.new.self.counts (before ++ data_of_runs runs) (runs_from runs c.loop-run.place) (runs_from runs c.next.new.place) c.in-Some.run' counts c.in-Some.ensures
+          counts_next c.loop-run.self.counts c.add_run.new.self.counts (before ++ data_of_runs runs) (data_of_runs (runs_from runs c.loop-run.place)) (range_with_len c.in-Some.run'.target c.in-Some.run'.length)
+          (data_of_runs (runs_from runs c.next.new.place)) counts (ap data_of_runs c.in-Some.ensures)
           (c.in_ok-add_run.ensures.listed counts.first counts.counted);
     }
 
 pub returns-clause-listed : goal.returns-clause-listed
 returns-clause-listed c before counted =
-    counts_all c.loop-run.self.counts (before ++ data_of_runs c.args.runs.now) (runs_from c.args.runs.now c.loop-run.place) (c.loop-run.invariant.listed before counted) c.in_default.ensures.0
+    counts_all c.loop-run.self.counts (before ++ data_of_runs c.args.runs.now) (data_of_runs (runs_from c.args.runs.now c.loop-run.place)) (c.loop-run.invariant.listed before counted)
+    (ap data_of_runs c.in_default.ensures.0)

@@ -1,0 +1,16 @@
+use Rattle.std.proofs.Common.{◌≡◌, ◌++◌, ℕ, List, drop}
+use Rattle.std.specs.List.{AllByRecursion}
+use Rattle.pd_count.specs.Counted.{count_of}
+use Rattle.pd_runs.specs.Places.{runs_from}
+use Rattle.pd_restore.specs.Overflowing.{HasCountedThrice}
+use Rattle.pd_restore.specs.PlainNeed.{leaves_used}
+use Rattle.pd_restore.proofs.SavedNeedLemmas.{CountsFirst, IsWithin}
+use Rattle.pd_restore.proofs.plain_need.add_leaves.Given as goal
+
+abbrev pub invariant-loop-i : goal.invariant-loop-i
+invariant-loop-i l = record {
+  size : l.counted.counts.size ≡ l.initial.counted.counts.size;
+  within : AllByRecursion (IsWithin l.initial.counted.counts.size) (runs_from l.runs l.place);
+  listed : (before : List ℕ) → HasCountedThrice l.initial.counted.counts before
+      → CountsFirst l.counted.counts (before ++ leaves_used (count_of l.uses.counts) 0 l.leaves l.runs) (leaves_used (count_of l.uses.counts) l.i (drop l.i l.leaves) (runs_from l.runs l.place));
+}
