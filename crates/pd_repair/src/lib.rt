@@ -9,3 +9,4 @@ mod super_block;
 pub use fault::RepairFault;
 pub use repair::{repair_from, repair_thin};
 pub use shared::{repair_shared, repair_shared_from};
+pub use super_block::sound_super;

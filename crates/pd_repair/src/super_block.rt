@@ -10,7 +10,7 @@ use pd_kinds::{Block, ThinSuper};
 use pd_supers::{missing_super, read_thin_super, thin_super_rules};
 
 /// Reads the superblock of a pool. Fails where it breaks rules, and names these, or where the device failed.
-pub(crate) fn sound_super<A: Device>(input: &mut A) -> Result<ThinSuper, RepairFault>
+pub fn sound_super<A: Device>(input: &mut A) -> Result<ThinSuper, RepairFault>
     requires { IsAttached (A.state input.old) }
     ensures sound { IfOk result (λ s. IsSoundSuper s (A.state input.old)) }
     ensures lacks { IfErr result (λ fault. LacksSuper fault ((A.state input.old).reads + 1) (A.state input.new).reads (A.state input.old).held) }
