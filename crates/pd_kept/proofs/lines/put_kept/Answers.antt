@@ -1,0 +1,25 @@
+use Rattle.std.proofs.Common.{OnOk, rules, subst}
+use Rattle.pd_kinds.specs.Objects.{Appends, AppendsFront}
+use Rattle.pd_lines.proofs.Printing.{all_begun, all_lost}
+use Rattle.pd_answers.specs.KeptLines.{told_text}
+use Rattle.pd_kept.specs.Kept.{told_of}
+use Rattle.pd_kept.proofs.TextLemmas.{put_all}
+use Rattle.pd_kept.proofs.lines.put_kept.Goals as goal
+
+pub returns-clause-whole : goal.returns-clause-whole
+returns-clause-whole g c =
+    let state = g.K.Sink.state in
+    subst (λ out. OnOk c.finish.result (Appends (told_text (told_of c.args.kept.now)) (state c.args.out.now).written (state out).written)) (search rules)
+    (put_all c.finish.result {first = state c.args.out.now} {sink = state c.finish.new.self.0} (rw (c.to_sink-printer.ensures.none, c.to_sink-printer.ensures.same) at c.in_ok-print_kept.ensures.prints) c.finish.ensures.finishes)
+
+pub returns-clause-front : goal.returns-clause-front
+returns-clause-front g c =
+    let state = g.K.Sink.state in
+    subst (λ out. AppendsFront (told_text (told_of c.args.kept.now)) (state c.args.out.now).written (state out).written) (search rules)
+    (all_lost {first = state c.args.out.now} {sink = state c.finish.new.self.0} (rw (c.to_sink-printer.ensures.none, c.to_sink-printer.ensures.same) at c.in_ok-print_kept.ensures.prints) c.finish.ensures.finishes)
+
+pub returns-in_err-print_kept-clause-front : goal.returns-in_err-print_kept-clause-front
+returns-in_err-print_kept-clause-front g c =
+    let state = g.K.Sink.state in
+    subst (λ out. AppendsFront (told_text (told_of c.args.kept.now)) (state c.args.out.now).written (state out).written) (search rules)
+    (all_begun {first = state c.args.out.now} (rw (c.to_sink-printer.ensures.none, c.to_sink-printer.ensures.same) at c.in_err-print_kept.ensures.prints))

@@ -1,0 +1,19 @@
+use Rattle.std.proofs.Common.{◌≡◌, ℕ, List, ◌++◌, map, IfSome}
+use Rattle.pd_image.specs.Device.{OnlyReads}
+use Rattle.pd_salvage.specs.Cursor.{saved_least, saved_number, saved_room}
+use Rattle.pd_kept.specs.Stored.{AreStored, pair_of}
+use Rattle.pd_kept.proofs.NumberLemmas.{ReadsNumbers}
+use Rattle.pd_kept.proofs.stored.read_stored.Given as goal
+
+-- the numbers that were read and those that are left are all
+abbrev pub invariant-loop-id : goal.invariant-loop-id
+invariant-loop-id g l = record {
+  ascend : (rest : List (ℕ × ℕ)) → AreStored (saved_least l.entries) rest → AreStored 0 (map pair_of l.stored.items ++ rest);
+  told : IfSome (g.D.Device.state l.initial.dev).held (λ image. ReadsNumbers l.s image l.stored.items l.entries);
+  room : saved_room l.entries ≡ l.s.meta_map.blocks;
+  kept : OnlyReads (g.D.Device.state l.initial.dev) (g.D.Device.state l.dev);
+  faults : (g.D.Device.state l.dev).faults ≡ (g.D.Device.state l.initial.dev).faults;
+}
+
+abbrev pub decreases-loop-id : goal.decreases-loop-id
+decreases-loop-id g l = saved_number 24 l.entries

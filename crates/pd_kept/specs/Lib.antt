@@ -1,0 +1,5 @@
+pub mod Kept
+pub mod Stored
+pub mod Merging
+pub mod Weighing
+pub mod Query

@@ -1,0 +1,64 @@
+//! The numbers of mappings that the details of devices say.
+
+ghost use Rattle.std.specs.Prelude.{◌≡◌, ◌≤◌, map, IfErr, IfOk, IfSome, OnOk};
+ghost use Rattle.pd_image.specs.Device.{IsAttached, OnlyReads};
+ghost use Rattle.pd_salvage.specs.declared.saved.SalvageFault.TheVariants.{Memory};
+ghost use Rattle.pd_salvage.specs.Faults.{CountsSalvage};
+ghost use Rattle.pd_kept.specs.Stored.{AddsStored, AreStored, pair_of, stored_numbers};
+
+use pd_image::Device;
+use pd_kinds::ThinSuper;
+use pd_salvage::{SalvageFault, SavedCursor};
+use pd_value::Details;
+use std::alloc::Global;
+
+/// How many mappings the details of a device say that it has.
+#[derive(Clone, Copy)]
+pub(crate) struct StoredNumber {
+    /// The number of the device.
+    pub(crate) id: u64,
+    /// How many mappings.
+    pub(crate) mapped: u64,
+}
+
+/// Those of all details that are saved of the pool with this superblock, by ascending id.
+pub(crate) fn read_stored<D: Device>(
+    alloc: Global,
+    dev: &mut D,
+    s: &ThinSuper,
+) -> Result<Vec<StoredNumber>, SalvageFault>
+    requires attached { IsAttached (D.state dev.old) }
+    requires within { s.now.meta_map.blocks ≤ (D.state dev.old).blocks }
+    ensures ascend { IfOk result (λ stored. AreStored 0 (map pair_of stored.items)) }
+    ensures told { IfOk result (λ stored. IfSome (D.state dev.old).held (λ image. map pair_of stored.items ≡ stored_numbers s.now image)) }
+    ensures kept { OnlyReads (D.state dev.old) (D.state dev.new) }
+    ensures faults { CountsSalvage result (D.state dev.old).faults (D.state dev.new).faults }
+{
+    let mut entries: SavedCursor<Details> = match SavedCursor::start(
+        alloc,
+        s.meta_map.blocks,
+        s.details_root,
+    ) {
+        Ok(entries) => entries,
+        Err(_) => return Err(SalvageFault::Memory),
+    };
+    let mut stored = Vec::new(alloc);
+    loop {
+        match entries.next(dev) {
+            Ok(Some((id, details))) => add_stored(&mut stored, id, details.mapped)?,
+            Ok(None) => return Ok(stored),
+            Err(_) => return Err(SalvageFault::Device),
+        }
+    }
+}
+
+/// Adds the number of a device.
+fn add_stored(stored: &mut Vec<StoredNumber>, id: u64, mapped: u64) -> Result<(), SalvageFault>
+    ensures added { OnOk result (AddsStored id mapped stored.old.items stored.new.items) }
+    ensures memory { IfErr result (λ fault. fault ≡ Memory) }
+{
+    match stored.push(StoredNumber { id, mapped }) {
+        Ok(()) => Ok(()),
+        Err(_) => Err(SalvageFault::Memory),
+    }
+}
