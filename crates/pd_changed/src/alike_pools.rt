@@ -17,7 +17,7 @@ use pd_tree::{
 };
 
 /// What is known of a pool that has no faults up to the stage Order, or up to a later one.
-fn pools_in_order_are_known()
+pub fn pools_in_order_are_known()
     ensures { (until : Stage) (image : List (List ℕ)) → LooksAtOrder until → faults Thin until image ≡ [] → IsKnown image }
 {
     trees_are_in_order();

@@ -11,7 +11,9 @@ mod settled;
 mod views;
 
 pub use alike::{alike_caches_have_the_same_faults, alike_caches_mean_the_same};
-pub use alike_pools::{alike_pools_have_the_same_faults, alike_pools_mean_the_same};
+pub use alike_pools::{
+    alike_pools_have_the_same_faults, alike_pools_mean_the_same, pools_in_order_are_known,
+};
 pub use moved::{
     free_blocks_are_read_by_none, moved_pool_is_lawful, moved_pool_reads_the_same,
     moving_keeps_what_is_read,
