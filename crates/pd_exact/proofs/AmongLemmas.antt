@@ -1,5 +1,5 @@
 -- What is among the items of a list that was mapped or filtered.
-use Rattle.std.proofs.Common.{◌≡◌, ◌⊎◌, inl, inr, true, Bool, List, [], ◌∷◌, map, filter, refl, arith}
+use Rattle.std.proofs.Common.{◌≡◌, inl, inr, true, Bool, List, [], ◌∷◌, map, filter, refl, arith}
 use Rattle.std.specs.List.{All, Contains}
 use Rattle.std.proofs.lemmas.Bool.{cases_Bool, both_ways}
 use Rattle.std.proofs.lemmas.List.Elements.{All-cons, All-contains, All-filter, All-map, All-nil, All-weaker, Contains-append_right, Contains-get_or, filter_passes}

@@ -3,6 +3,7 @@ use Rattle.std.proofs.Common.{◌≡◌, inl, inr, ℕ, List, [], length, nat_eq
 use Rattle.std.proofs.lemmas.Bool.{cases_Bool, eqb-true}
 use Rattle.std.proofs.lemmas.Option.{IfSome_then}
 use Rattle.pd_kinds.specs.declared.kind.Kind.{Kind}
+use Rattle.pd_kinds.specs.declared.kind.Stage.{Stage}
 use Rattle.pd_kinds.specs.declared.kind.Stage.TheVariants.{Whole}
 use Rattle.pd_kinds.specs.Image.{IsImage}
 use Rattle.pd_kinds.specs.Objects.{Appends}
@@ -10,7 +11,7 @@ use Rattle.pd_kinds.specs.Report.{Reported}
 use Rattle.pd_kinds.specs.Stages.{faults}
 use Rattle.pd_answers.specs.Answer.{Objects}
 use Rattle.pd_answers.specs.Promises.{Queried, query, query_answer, terms_of}
-use Rattle.pd_answers.specs.QueryLines.{Asked, asked_kind, asked_text}
+use Rattle.pd_answers.specs.QueryLines.{Asked, asked_kind, asked_stage, asked_text}
 use Rattle.pd_answers.specs.Requests.{Request}
 use Rattle.pd_answers.specs.Terms.{IsAnswered}
 use Rattle.pd_answers.specs.Words.{asked}
@@ -52,14 +53,21 @@ is_queried queried zero = elim (cases_Bool (nat_eq queried.report.total 0)) [
     zero_one e = omega arith
 
 module _ (q : Asked) (file : Option (List ℕ)) (path : List ℕ) (before after : Objects) where
-  pub puts : IsAnswered (query q file path) before after 0 → PutsOfInput (asked_kind q) (asked_text q) before after
-  puts answered =
+  pub answers : IsAnswered (query q file path) before after 0
+      → IfSome before.input.held (λ image. (faults (asked_kind q) (asked_stage q) image ≡ []) × Appends (asked_text q image) before.out.written after.out.written)
+  answers answered =
       let given = answered.sound (omega arith) in
       let is = is_queried answered.finding given.status in
-      IfSome_then before.input.held answered.found (λ image right. record {
-        sound = none_counted (faults (asked_kind q) Whole image) (sym (ap (λ (r : Reported). r.total) right.0) ∙ is.0);
-        put = subst (λ (bytes : List ℕ). Appends bytes before.out.written after.out.written) (is.1 ∙ right.1) given.out;
-      })
+      IfSome_then before.input.held answered.found (λ image right. (
+        none_counted (faults (asked_kind q) (asked_stage q) image) (sym (ap (λ (r : Reported). r.total) right.0) ∙ is.0),
+        subst (λ (bytes : List ℕ). Appends bytes before.out.written after.out.written) (is.1 ∙ right.1) given.out,
+      ))
+
+  pub puts : asked_stage q ≡ Whole → IsAnswered (query q file path) before after 0 → PutsOfInput (asked_kind q) (asked_text q) before after
+  puts whole answered = IfSome_then before.input.held (answers answered) (λ image is. record {
+    sound = subst (λ (stage : Stage). faults (asked_kind q) stage image ≡ []) whole is.0;
+    put = is.1;
+  })
 
 -- what a dump puts spells what the image means
 module _ {M : Type 0} (kind : Kind) (Spells : List ℕ → M → Type 0) (meaning_of : Image → M) (text_of : Image → List ℕ)

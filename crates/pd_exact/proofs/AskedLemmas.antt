@@ -13,7 +13,7 @@ use Rattle.pd_kinds.specs.declared.kind.Passing.TheVariants.{Nothing, Leaks}
 use Rattle.pd_kinds.specs.Flagged.{kind_of}
 use Rattle.pd_kinds.specs.declared.kind.Kind.TheVariants.{Thin, Cache, Era}
 use Rattle.pd_kinds.specs.declared.kind.Stage.TheVariants.{Counts}
-use Rattle.pd_answers.specs.QueryLines.{text, shared_text, reverse_map, device_list, since}
+use Rattle.pd_answers.specs.QueryLines.{text, shared_text, reverse_map, device_list, since, kept}
 use Rattle.pd_answers.specs.Requests.{check, check_and_clear, passing_check, query, restore, repair, search, repair_cache, generate, rehearse, writeback, shrink}
 use Rattle.pd_answers.specs.Words.{Region, is_flag, items_of, given, version_of, generated_number, number_below, region_of, tool_in, request_of, asked}
 use Rattle.pd_exact.specs.Saved.{IsVersionAsked}
@@ -93,6 +93,12 @@ thin_search_asked false from to words transaction block_size blocks is_from is_t
     rw (is_from, is_to, say.names.0, say.names.1.0, say.names.1.1, say.transaction_is, say.block_size_is, say.blocks_is) refl
 thin_search_asked true from to words transaction block_size blocks is_from is_to say =
     rw (is_from, is_to, say.names.0, say.names.1.0, say.names.1.1, say.transaction_is, say.block_size_is, say.blocks_is) refl
+
+pub dry_repair_asked : (shared : Bool) (image : List ℕ) → IsName image
+    → asked (codes "thin_repair" ∷ codes "--dry-run" ∷ (with_sharing shared ++ (codes "-i" ∷ image ∷ []))) ≡ Some (query kept None image)
+unfolding is_flag items_of given version_of tool_in request_of asked
+dry_repair_asked false image is_image = rw is_image refl
+dry_repair_asked true image is_image = rw is_image refl
 
 pub cache_repair_asked : (word : Option (List ℕ)) (version : Option ℕ) (from to : List ℕ) → IsVersionSaid word version → IsName from → IsName to
     → asked (codes "cache_repair" ∷ (in_version word ++ (codes "-i" ∷ from ∷ codes "-o" ∷ to ∷ []))) ≡ Some (repair_cache version from to)

@@ -1,19 +1,16 @@
 -- What an answered repair of a cache comes to.
-use Rattle.std.proofs.Common.{◌≡◌, ◌⊎◌, inl, inr, ⊎_elim, ℕ, ◌<◌, ◌≤◌, ◌||◌, nat_eq, true, List, [], ◌∷◌, length, Option, Some, None, IfSome, refl, sym, ap, ◌∙◌, subst, arith}
-use Rattle.std.specs.List.{All}
-use Rattle.std.specs.Option.{unwrap_or}
-use Rattle.std.proofs.lemmas.Bool.{cases_Bool, eqb-true, not-false, or_parts}
+use Rattle.std.proofs.Common.{◌≡◌, ◌⊎◌, inl, inr, ℕ, ◌<◌, ◌≤◌, ◌||◌, nat_eq, true, List, [], ◌∷◌, length, Option, Some, None, IfSome, refl, sym, ap, ◌∙◌, subst, arith}
+use Rattle.std.proofs.lemmas.Bool.{cases_Bool, eqb-true, not-false}
 use Rattle.std.proofs.lemmas.Option.{IfSome_then}
 use Rattle.pd_kinds.specs.declared.kind.Kind.TheVariants.{Cache}
 use Rattle.pd_kinds.specs.declared.kind.Stage.TheVariants as stages
 use Rattle.pd_kinds.specs.CacheFormat.{CacheFields, cache_fields, cache_super_bad, cache_super_tests}
-use Rattle.pd_kinds.specs.Crash.{HoldsSynced, IsOldNoneOrMade, LeavesOnly}
+use Rattle.pd_kinds.specs.Crash.{HoldsSynced}
 use Rattle.pd_kinds.specs.Graph.{block_at}
 use Rattle.pd_kinds.specs.Image.{HasBytes, IsImage}
 use Rattle.pd_kinds.specs.Limits.{room_of}
 use Rattle.pd_kinds.specs.Meaning.{CacheMeaning, cache_meaning}
 use Rattle.pd_kinds.specs.Objects.{Appends}
-use Rattle.pd_kinds.specs.Report.{report_of}
 use Rattle.pd_kinds.specs.Stages.{HasCleanSuper, cache_checked, faults}
 use Rattle.pd_kinds.proofs.FieldLemmas.{le-lt}
 use Rattle.pd_laws.proofs.CleanLemmas.{clean_super_where_none}
@@ -25,14 +22,13 @@ use Rattle.pd_laid_cache.specs.CleanCache.{IsCleanCache}
 use Rattle.pd_spells.specs.CacheNeed.{cache_need}
 use Rattle.pd_spells.specs.Lawful.{AreEntries, IsLawfulCache}
 use Rattle.pd_answers.specs.Answer.{NoFaults, Objects}
-use Rattle.pd_answers.specs.CacheRepairs.{SavedIn, keeps_line, kept_answer, making_in, saved_in}
+use Rattle.pd_answers.specs.CacheRepairs.{SavedIn, keeps_line, making_in, saved_in}
 use Rattle.pd_answers.specs.Outputs.{IsWorkDone}
 use Rattle.pd_exact.specs.Exact.{IsCleanCacheIn}
 use Rattle.pd_exact.specs.Saved.{HoldsSavedCache, IsCacheRepairAnswered, IsSavedCache, IsSoundCacheRepair, IsVersionAsked, LeavesSavedCache, PutsKept, version_written}
 use Rattle.pd_exact.proofs.CacheLawful.{hint_size_in}
 use Rattle.pd_exact.proofs.Repaired.{IsMadeSo, answered_at_zero, at_both, holds_made, leaves_made, line_at_zero}
 use Rattle.pd_exact.proofs.Restored.{Image}
-use Rattle.pd_exact.proofs.TellLemmas.{given_once_done}
 use Rattle.pd_exact.proofs.WordLemmas.{field_fits, first_whole}
 
 -- what is known of a superblock without faults

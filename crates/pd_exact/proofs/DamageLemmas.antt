@@ -1,18 +1,17 @@
 -- What is saved of a pool that kernels kept, and that was damaged, has the times that kernels keep.
-use Rattle.std.proofs.Common.{◌≡◌, ◌⊎◌, inl, inr, ⊎_elim, ℕ, suc, ◌+◌, ◌^◌, ◌<◌, ◌≤◌, true, false, nat_eq, nat_lt, subst, ◌/◌, List, [], ◌∷◌, Option, Some, None, IsSome, map, filter, refl, sym, ap, ◌∙◌, arith}
+use Rattle.std.proofs.Common.{◌≡◌, inl, inr, ℕ, ◌+◌, ◌^◌, ◌<◌, ◌≤◌, false, nat_eq, nat_lt, subst, ◌/◌, List, [], ◌∷◌, Option, Some, None, IsSome, refl, sym, ap, ◌∙◌, arith}
 use Rattle.std.specs.List.{All, Contains}
 use Rattle.std.proofs.lemmas.Bool.{both_ways, cases_Bool, eqb-true, eq-eqb, ne_eqb}
 use Rattle.std.proofs.lemmas.Option.{none-some, same_Some}
 use Rattle.std.proofs.lemmas.List.Elements.{All-contains}
-use Rattle.pd_kinds.specs.Edge.{is_outside}
 use Rattle.pd_kinds.specs.Graph.{block_at}
 use Rattle.pd_kinds.specs.Meaning.{Mapping, ThinDevice, ThinPool, thin_meaning}
 use Rattle.pd_kinds.specs.Node.{Entry, child_at}
-use Rattle.pd_kinds.specs.ThinFormat.{mapped_block, mapped_time}
+use Rattle.pd_kinds.specs.ThinFormat.{mapped_block}
 use Rattle.pd_kinds.specs.ThinSuper.{ThinFields, thin_fields}
 use Rattle.pd_kinds.specs.Trees.{value_of_key}
 use Rattle.pd_laid.specs.Salvage.{salvaged_entries, salvaged_device, salvaged_mappings, is_damaged, salvage, salvage_from}
-use Rattle.pd_laid.specs.Saved.{ContainsEntry, IsInChild, IsSaved, IsWhole, in_leaf, in_child}
+use Rattle.pd_laid.specs.Saved.{ContainsEntry, IsSaved, IsWhole, in_leaf, in_child}
 use Rattle.pd_laid.proofs.SavedLemmas.{given_where_saved}
 use Rattle.pd_exact.specs.Sharing.{HasTimesOfSharing, IsDamagedPool, IsKeptPool, IsShared, MappingPlace, SharingIsSeen, details_in}
 use Rattle.pd_salvage.proofs.AscendLemmas.{AreAscending, give_ascends}

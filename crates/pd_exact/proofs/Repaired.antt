@@ -1,5 +1,5 @@
 -- What an answered repair comes to, where what is laid of what is saved is so.
-use Rattle.std.proofs.Common.{◌≡◌, ◌⊎◌, inl, inr, ⊎_elim, ℕ, ◌≤◌, nat_eq, false, true, Bool, List, [], length, Some, IfSome, refl, sym, ap, ◌∙◌, subst}
+use Rattle.std.proofs.Common.{◌≡◌, ◌⊎◌, inl, inr, ⊎_elim, ℕ, ◌≤◌, nat_eq, false, Bool, List, [], length, Some, IfSome, refl, sym, ap, ◌∙◌, subst}
 use Rattle.std.proofs.lemmas.Bool.{cases_Bool, eq-eqb, eqb-true, le-ltb, ltb-false}
 use Rattle.std.proofs.lemmas.Option.{IfSome_then}
 use Rattle.pd_kinds.specs.declared.fault.Fault.{Fault}
@@ -23,7 +23,7 @@ use Rattle.pd_answers.specs.Answer.{NoFaults, Objects}
 use Rattle.pd_answers.specs.Makings.{Lays, Making, is_too_small}
 use Rattle.pd_answers.specs.Outputs.{HoldsMade}
 use Rattle.pd_answers.specs.Promises.{terms_of}
-use Rattle.pd_answers.specs.Repairs.{FindsSaved, Salvaged, Saved, repair_answer, saved_answer, saved_making, saved_of}
+use Rattle.pd_answers.specs.Repairs.{FindsSaved, Salvaged, saved_answer, saved_making, saved_of}
 use Rattle.pd_answers.specs.Requests.{repair}
 use Rattle.pd_answers.specs.Terms.{IsAnswered}
 use Rattle.pd_exact.specs.Exact.{HoldsSalvage, IsRepairAnswered, IsSoundRepair, LeavesSalvage}

@@ -1,15 +1,13 @@
 -- In what is saved of a pool sharing is seen, where it has the times that kernels keep.
-use Rattle.std.proofs.Common.{◌≡◌, ℕ, ◌/◌, ◌^◌, ◌<◌, Bool, List, [], Option, Some, None, map, filter, not, refl, sym, subst, ap, ◌∙◌, arith}
+use Rattle.std.proofs.Common.{◌≡◌, ℕ, ◌<◌, Bool, List, Option, Some, None, filter, not, refl, sym, subst, ap, ◌∙◌, arith}
 use Rattle.std.specs.List.{Contains}
 use Rattle.std.proofs.lemmas.Option.{IfSome_then}
-use Rattle.std.specs.Option.{unwrap_or}
 use Rattle.pd_kinds.specs.declared.kind.Kind.TheVariants.{Thin}
 use Rattle.pd_kinds.specs.Edge.{is_outside}
 use Rattle.pd_kinds.specs.Graph.{block_at}
-use Rattle.pd_kinds.specs.Meaning.{ThinDevice, ThinPool, thin_meaning}
+use Rattle.pd_kinds.specs.Meaning.{ThinDevice}
 use Rattle.pd_kinds.specs.Node.{Entry}
 use Rattle.pd_kinds.specs.ThinSuper.{ThinFields, thin_fields}
-use Rattle.pd_kinds.specs.Value.{details_code}
 use Rattle.pd_laid_thin.specs.CleanPool.{IsCleanPool}
 use Rattle.pd_answers.specs.Answer.{Objects}
 use Rattle.pd_answers.specs.Promises.{terms_of}

@@ -5,3 +5,4 @@ pub mod Writeback
 pub mod Search
 pub mod Sharing
 pub mod Shrink
+pub mod DryRun

@@ -1,6 +1,6 @@
 -- Trusted base.
 -- What repairs with shared leaves leave, and those of caches, where the objects tell what they hold.
-use Rattle.std.specs.Prelude.{◌≡◌, ◌⊎◌, ℕ, ◌≤◌, true, List, [], Option, Some, IfSome, length}
+use Rattle.std.specs.Prelude.{◌≡◌, ◌⊎◌, ℕ, true, List, [], Option, Some, IfSome}
 use Rattle.std.specs.Option.{unwrap_or}
 use Rattle.pd_kinds.specs.declared.kind.Kind.TheVariants.{Cache}
 use Rattle.pd_kinds.specs.declared.kind.Stage.TheVariants.{Whole}

@@ -6,7 +6,7 @@ use Rattle.pd_kinds.specs.declared.kind.Kind.{Kind}
 use Rattle.pd_kinds.specs.declared.kind.Kind.TheVariants.{Thin, Cache, Era}
 use Rattle.pd_kinds.specs.declared.kind.Passing.{Passing}
 use Rattle.pd_kinds.specs.declared.kind.Passing.TheVariants.{Nothing, Leaks}
-use Rattle.pd_kinds.specs.declared.kind.Stage.TheVariants.{Whole}
+use Rattle.pd_kinds.specs.declared.kind.Stage.TheVariants.{Super, Whole}
 use Rattle.pd_kinds.specs.Crash.{HoldsSynced}
 use Rattle.pd_kinds.specs.Image.{IsImage}
 use Rattle.pd_kinds.specs.Objects.{Appends}
@@ -18,6 +18,7 @@ use Rattle.pd_shapes.specs.SharedText.{text_of_shape}
 use Rattle.pd_laid_thin.specs.CleanPool.{IsCleanPool}
 use Rattle.pd_answers.specs.Answer.{Objects}
 use Rattle.pd_answers.specs.Generated.{generated_text}
+use Rattle.pd_answers.specs.KeptLines.{kept_text}
 use Rattle.pd_answers.specs.Promises.{terms_of}
 use Rattle.pd_answers.specs.QueryLines.{image_text}
 use Rattle.pd_answers.specs.Terms.{IsAnswered}
@@ -84,6 +85,14 @@ pub record PutsOfSound (kind : Kind) (bytes : List ℕ) (image : List (List ℕ)
 -- such an image was read, and the bytes were put that this gives of it
 abbrev pub PutsOfInput : Kind → (List (List ℕ) → List ℕ) → Objects → Objects → Type 0
 PutsOfInput kind bytes_of before after = IfSome before.input.held (λ image. PutsOfSound kind (bytes_of image) image before after)
+
+-- the superblock of the image that was read has no faults, and it was put what a repair would keep of it
+pub record TellsKept (image : List (List ℕ)) (before after : Objects) : Type 0 where
+  pub sound : faults Thin Super image ≡ []
+  pub put : Appends (kept_text image) before.out.written after.out.written
+
+abbrev pub TellsKeptOfInput : Objects → Objects → Type 0
+TellsKeptOfInput before after = IfSome before.input.held (λ image. TellsKept image before after)
 
 -- these bytes were put, and they spell this
 pub record PutsSpelled {M : Type 0} (kind : Kind) (Spells : List ℕ → M → Type 0) (meaning : M) (bytes : List ℕ) (image : List (List ℕ)) (before after : Objects) : Type 0 where

@@ -7,6 +7,7 @@
 
 mod cache_repairs;
 mod caches;
+mod dry_runs;
 mod laws;
 mod repairs;
 mod searches;
@@ -25,6 +26,7 @@ pub use caches::{
     crashed_restore_leaves_no_other_cache, restored_cache_dump_means_the_same,
     restored_cache_is_clean, sound_caches_are_lawful,
 };
+pub use dry_runs::{repairs_have_room_where_told, sound_pools_are_told_whole};
 pub use laws::{
     checks_tell_clean_images, cleared_image_is_clean, cleared_images_pass,
     cleared_images_stay_clean, clearing_checks_tell_what_passes,

@@ -13,14 +13,10 @@ ghost use Rattle.pd_answers.specs.Answer.{Objects};
 ghost use Rattle.pd_answers.specs.Outputs.{IsWorkDone};
 ghost use Rattle.pd_exact.specs.Search.{DoNumbersFit, HasNoRoots, HoldsBestPool, HoldsFoundPool, HoldsNoEarlier, IsLostOf, IsLostPool, IsSearchAnswered, KeepsRoots, LeavesFoundPool};
 
+use pd_changed::pools_in_order_are_known;
 use pd_laid_thin::laid_pool_is_clean;
-use pd_laws::trees_are_in_order;
 use pd_scan::found_pools_are_saved_whole;
 use pd_thin_meaning::sound_pools_are_lawful;
-use pd_tree::{
-    edges_lead_to_reached_pairs, entries_lead_to_reached_pairs, formats_have_trees,
-    superblocks_lead_to_reached_roots,
-};
 
 /// The pool of the best roots is lawful, whatever else is damaged, where the given numbers fit a superblock: a text spells it.
 pub fn found_pools_are_lawful()
@@ -62,11 +58,7 @@ pub fn lost_pools_are_found()
     ensures { (image lost : List (List ℕ)) → IsImage image → faults Thin Whole image ≡ [] → IsLostOf image lost
         → KeepsRoots image lost (thin_fields (block_at image 0)) }
 {
-    trees_are_in_order();
-    formats_have_trees();
-    superblocks_lead_to_reached_roots();
-    edges_lead_to_reached_pairs();
-    entries_lead_to_reached_pairs();
+    pools_in_order_are_known();
     sound_pools_are_lawful();
 }
 

@@ -1,6 +1,6 @@
 //! What status 0 says of each tool, over the words that were given and what the objects hold before and after the call.
 
-ghost use Rattle.std.specs.Prelude.{◌≡◌, ◌^◌, ◌∷◌, ◌++◌, [], List, ℕ, IfSome, Option, Some, codes, true};
+ghost use Rattle.std.specs.Prelude.{◌≡◌, ◌^◌, ◌∷◌, ◌++◌, [], Bool, List, ℕ, IfSome, Option, Some, codes, true};
 ghost use Rattle.pd_kinds.specs.declared.kind.Flagged.{Flagged};
 ghost use Rattle.pd_kinds.specs.declared.kind.Flagged.TheVariants.{Pool};
 ghost use Rattle.pd_kinds.specs.declared.kind.Kind.{Kind};
@@ -22,7 +22,7 @@ ghost use Rattle.pd_exact.specs.Saved.{HoldsSavedCache, HoldsSavedShape, PutsKep
 ghost use Rattle.pd_exact.specs.Sharing.{HasTimesOfSharing, IsDamagedPool, IsKeptPool, SeesSharingWhere};
 ghost use Rattle.pd_exact.specs.Search.{HasNoRoots, HoldsBestPool, HoldsBestShape, HoldsFoundPool, HoldsFoundShape, NumberWords, SayNumbers, with_numbers};
 ghost use Rattle.pd_exact.specs.Shrink.{HoldsSharing, HoldsShrunk};
-ghost use Rattle.pd_exact.specs.Words.{CallEnds, HoldsGenerated, InputLosesNothing, IsName, IsVersionSaid, PutsGenerated, PutsOfInput, PutsShapeOfInput, PutsTextOfInput, TellsWhetherClean, TellsWhetherPassed, check_name, in_version, letting_pass, to_file};
+ghost use Rattle.pd_exact.specs.Words.{CallEnds, HoldsGenerated, InputLosesNothing, IsName, IsVersionSaid, PutsGenerated, PutsOfInput, PutsShapeOfInput, PutsTextOfInput, TellsKeptOfInput, TellsWhetherClean, TellsWhetherPassed, check_name, in_version, letting_pass, to_file, with_sharing};
 ghost use Rattle.pd_exact.specs.Writeback.{HoldsWrittenBack};
 
 use crate::cache_repairs::repaired_cache_is_clean;
@@ -236,6 +236,13 @@ pub fn thin_repair_finds_the_sharing()
 {
     searched_pool_keeps_its_sharing();
 }
+
+/// `thin_repair --dry-run -i IMAGE`, with `--shared` before `-i` or not: status 0 says that the superblock of the image has no faults, and
+/// that it was put what a repair would keep: the devices that are saved and how many mappings of each, which is what a repair writes; the
+/// devices that are lost; and the least numbers of blocks on which a repair has room, without shared leaves and with them.
+pub fn thin_repair_tells_what_it_would_keep()
+    ensures { (shared : Bool) (image : List ℕ) (before after : Objects) → IsName image → CallEnds (codes "thin_repair" ∷ codes "--dry-run" ∷ (with_sharing shared ++ (codes "-i" ∷ image ∷ []))) 0 before after → TellsKeptOfInput before after }
+{}
 
 /// `cache_repair -i IMAGE -o IMAGE`, in the input's version of the metadata or, where `--metadata-version` says so, another: status 0 says
 /// that the output is clean and means what can be saved of the cache, in that version, with nothing unsynced, and that the line of what is

@@ -1,3 +1,4 @@
+use Rattle.std.proofs.Common.{refl}
 use Rattle.pd_kinds.specs.declared.kind.Kind.TheVariants.{Thin}
 use Rattle.pd_kinds.specs.Meaning.{thin_meaning}
 use Rattle.pd_spells.specs.ThinText.{SpellsPool}
@@ -9,4 +10,4 @@ use Rattle.pd_exact.proofs.words.thin_dump_puts_the_text.Goals as goal
 pub returns : goal.returns
 returns c = λ file image before after is_file is_image ends.
     puts_text Thin SpellsPool thin_meaning (image_text Thin) (λ held is none. c.thin_text_spells.ensures (thin_meaning held) (c.sound_pools_are_lawful.ensures held is none)) before after
-    (puts (text Thin) file image before after (answered_for _ _ 0 before after (thin_dump_asked file image is_file is_image) ends))
+    (puts (text Thin) file image before after refl (answered_for _ _ 0 before after (thin_dump_asked file image is_file is_image) ends))

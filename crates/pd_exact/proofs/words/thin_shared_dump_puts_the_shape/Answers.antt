@@ -1,4 +1,4 @@
-use Rattle.std.proofs.Common.{ℕ, List}
+use Rattle.std.proofs.Common.{ℕ, List, refl}
 use Rattle.pd_kinds.specs.declared.kind.Kind.TheVariants.{Thin}
 use Rattle.pd_shapes.specs.ImageShape.{image_shape}
 use Rattle.pd_shapes.specs.PoolText.{SpellsPoolShape}
@@ -13,4 +13,4 @@ returns c = λ file image before after is_file is_image ends.
     let text_of = λ (held : List (List ℕ)). text_of_shape (image_shape held) in
     puts_text Thin SpellsPoolShape image_shape text_of
     (λ held is none. c.either_version_spells_a_shape.ensures.second (text_of held) (image_shape held) (c.sound_pools_have_a_shape.ensures.spelled held is none)) before after
-    (puts shared_text file image before after (answered_for _ _ 0 before after (thin_shared_dump_asked file image is_file is_image) ends))
+    (puts shared_text file image before after refl (answered_for _ _ 0 before after (thin_shared_dump_asked file image is_file is_image) ends))

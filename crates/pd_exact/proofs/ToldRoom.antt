@@ -1,0 +1,67 @@
+-- A repair has room on as many blocks as are told, and on more, but on no fewer.
+use Rattle.std.proofs.Common.{◌≡◌, ℕ, zero, suc, ◌+◌, ◌*◌, ◌<◌, ◌≤◌, ◌⊎◌, inl, inr, Bool, true, false, nat_le, nat_lt, List, unwrap_or, sym, subst, ◌∙◌, arith}
+use Rattle.std.specs.List.{find, range_with_len}
+use Rattle.std.proofs.lemmas.Bool.{both_ways, cases_Bool, cases_lt, le-leb, le-ltb, leb-false, leb-true, lt-ltb}
+use Rattle.pd_kinds.specs.Bitmap.{bitmaps_for}
+use Rattle.pd_kinds.specs.Graph.{block_at}
+use Rattle.pd_kinds.specs.ThinSuper.{thin_fields}
+use Rattle.pd_laid.specs.Salvage.{salvage}
+use Rattle.pd_shapes.specs.SavedShape.{saved_shape}
+use Rattle.pd_shapes.specs.SharedNeed.{shape_need}
+use Rattle.pd_spells.specs.ThinNeed.{thin_need}
+use Rattle.pd_answers.specs.KeptLines.{least_room, told_from}
+use Rattle.pd_answers.specs.Makings.{is_too_small}
+use Rattle.pd_answers.specs.Repairs.{saved_making, saved_of}
+use Rattle.pd_kept.proofs.RoomLemmas.{pool_bitmaps, shape_bitmaps}
+use Rattle.pd_exact.specs.DryRun.{told_need}
+
+-- the first number from one on that passes a test
+record IsFirst (test : ℕ → Bool) (from k : ℕ) : Type 0 where
+  passes : test k ≡ true
+  none : (n : ℕ) → from ≤ n → n < k → test n ≡ false
+
+first_found : (test : ℕ → Bool) (some from len : ℕ) → from ≤ some → some < from + len → test some ≡ true → IsFirst test from (unwrap_or (find test (range_with_len from len)) 0)
+first_found test some from zero after before passes = absurd (omega arith)
+first_found test some from (suc len) after before passes = elim (cases_Bool (test from)) [
+  | inl here ↦ rw here (record { passes = here; none = λ n low high. absurd (omega arith) })
+  | inr not ↦
+      let rest = first_found test some (from + 1) len (later (cases_lt from some) not) (omega arith) passes in
+      rw not (record { passes = rest.passes; none = λ n low high. below rest.none n (cases_lt from n) low high not })
+]
+  where
+    later : (from < some) ⊎ (some ≤ from) → test from ≡ false → from + 1 ≤ some
+    later (inl less) not = omega arith
+    later (inr more) not = let same : some ≡ from = omega arith in absurd (both_ways (test from) not (subst (λ (n : ℕ). test n ≡ true) same passes))
+
+    below : {k : ℕ} → ((n : ℕ) → from + 1 ≤ n → n < k → test n ≡ false) → (n : ℕ) → (from < n) ⊎ (n ≤ from) → from ≤ n → n < k → test from ≡ false → test n ≡ false
+    below none n (inl less) low high not = none n (omega arith) high
+    below none n (inr more) low high not = let same : from ≡ n = omega arith in subst (λ (m : ℕ). test m ≡ false) same not
+
+module _ (need : ℕ → ℕ) (form : (n : ℕ) → need 0 + bitmaps_for n ≡ need n) where
+  abbrev has_room : ℕ → Bool
+  has_room room = nat_le (need room) room
+
+  first_room : IsFirst has_room 0 (least_room need)
+  unfolding least_room
+  first_room =
+      let some : ℕ = 2 * need 0 + 1 in
+      let is = form some in
+      first_found has_room some 0 (2 * need 0 + 2) (omega arith) (omega arith) (le-leb (need some) some (omega arith))
+
+  too_small : (room : ℕ) → nat_lt room (need room) ≡ nat_lt room (least_room need)
+  too_small room = by (cases_lt room (least_room need))
+    where
+      by : (room < least_room need) ⊎ (least_room need ≤ room) → nat_lt room (need room) ≡ nat_lt room (least_room need)
+      by (inl less) =
+          lt-ltb room (need room) (leb-false (need room) room (first_room.none room (omega arith) less)) ∙ sym (lt-ltb room (least_room need) less)
+      by (inr more) =
+          let least = least_room need in
+          let enough = leb-true (need least) least first_room.passes in
+          let here = form room in
+          let there = form least in
+          le-ltb room (need room) (omega arith) ∙ sym (le-ltb room least more)
+
+pub room_told : (shared : Bool) (image : List (List ℕ)) (room : ℕ) → is_too_small (saved_making shared (saved_of shared image)) room
+    ≡ nat_lt room (told_need shared (told_from (thin_fields (block_at image 0)) image))
+room_told false image room = too_small (thin_need (salvage image)) (pool_bitmaps (salvage image)) room
+room_told true image room = too_small (shape_need (saved_shape image)) (shape_bitmaps (saved_shape image)) room
