@@ -12,7 +12,7 @@ use Rattle.pd_kinds.specs.Crash.{IsUntouched}
 use Rattle.pd_image.specs.Device.{OnlyReads}
 use Rattle.pd_answers.specs.Answer.{Objects, IsUsed, reading}
 use Rattle.pd_answers.specs.Promises.{Queried, query}
-use Rattle.pd_answers.specs.QueryLines.{Asked, asked_kind, asked_text}
+use Rattle.pd_answers.specs.QueryLines.{Asked, asked_kind, asked_stage, asked_text}
 use Rattle.pd_answers.specs.Terms.{is_one_of, is_possible}
 use Rattle.pd_tools.specs.declared.stop.Stop.{Stop}
 use Rattle.pd_tools.specs.declared.stop.Stop.TheVariants.{Device, Stream, Memory}
@@ -66,15 +66,15 @@ text_told None q = tt
 text_told (Some image) q = refl
 
 pub both_told : (held : Option (List (List ℕ))) (q : Asked)
-    → IfSome held (λ image. (told_or (λ image. report_of (faults (asked_kind q) stages.Whole image)) (report_of []) held ≡ report_of (faults (asked_kind q) stages.Whole image)) × (told_or (asked_text q) [] held ≡ asked_text q image))
+    → IfSome held (λ image. (told_or (λ image. report_of (faults (asked_kind q) (asked_stage q) image)) (report_of []) held ≡ report_of (faults (asked_kind q) (asked_stage q) image)) × (told_or (asked_text q) [] held ≡ asked_text q image))
 both_told None q = tt
 both_told (Some image) q = (refl, refl)
 
 -- what a query finds before anything was done
 pub query_at_rest : (q : Asked) (held : Option (List (List ℕ)))
-    → (queried : Queried) × IfSome held (λ image. (queried.report ≡ report_of (faults (asked_kind q) stages.Whole image)) × (queried.text ≡ asked_text q image)) × Unit {0}
+    → (queried : Queried) × IfSome held (λ image. (queried.report ≡ report_of (faults (asked_kind q) (asked_stage q) image)) × (queried.text ≡ asked_text q image)) × Unit {0}
 query_at_rest q held = (
-  record { report = told_or (λ image. report_of (faults (asked_kind q) stages.Whole image)) (report_of []) held; text = told_or (asked_text q) [] held },
+  record { report = told_or (λ image. report_of (faults (asked_kind q) (asked_stage q) image)) (report_of []) held; text = told_or (asked_text q) [] held },
   both_told held q,
   tt,
 )
@@ -98,14 +98,14 @@ module _ (q : Asked) (file : Option (List ℕ)) (path : List ℕ) (others : Obje
   }
 
   -- the image was not read
-  pub query_unread : (input' : DeviceState) (stop : Stop) → IsUsed (reading path) input'.access input'.path → IsUntouched input input' → IsUnread (asked_kind q) stages.Whole input input' stop
+  pub query_unread : (input' : DeviceState) (stop : Stop) → IsUsed (reading path) input'.access input'.path → IsUntouched input input' → IsUnread (asked_kind q) (asked_stage q) input input' stop
       → IsStopped (query q file path) before (after out input') stop
   query_unread input' stop used untouched unread =
       stopped_unread (query q file path) before (after out input') (unput input' used untouched)
-      (finding (told_or (λ image. report_of (faults (asked_kind q) stages.Whole image)) (report_of []) input.held) (told_or (asked_text q) [] input.held))
-      (both_told input.held q) refl (asked_kind q) stages.Whole stop unread refl (λ wants. (refl, wants)) (λ _ _. tt)
+      (finding (told_or (λ image. report_of (faults (asked_kind q) (asked_stage q) image)) (report_of []) input.held) (told_or (asked_text q) [] input.held))
+      (both_told input.held q) refl (asked_kind q) (asked_stage q) stop unread refl (λ wants. (refl, wants.sound)) (λ _ _. tt)
 
-  module _ (input' : DeviceState) (report : Reported) (right : IfSome input.held (λ image. report ≡ report_of (faults (asked_kind q) stages.Whole image)))
+  module _ (input' : DeviceState) (report : Reported) (right : IfSome input.held (λ image. report ≡ report_of (faults (asked_kind q) (asked_stage q) image)))
       (used : IsUsed (reading path) input'.access input'.path) (untouched : IsUntouched input input') (opened : input'.access ≡ 1) where
     -- the image has faults
     pub query_faulty : (nat_eq report.total 0) ≡ false → IsFinished (query q file path) before (after out input') (query_status report) (query_line report)
@@ -116,7 +116,7 @@ module _ (q : Asked) (file : Option (List ℕ)) (path : List ℕ) (others : Obje
 
     -- it has none, and the text was put
     module _ (clean : (nat_eq report.total 0) ≡ true) (out' : SinkState) (out_used : IsUsed (reading (unwrap_or file [])) out'.access out'.path)
-        (text : List ℕ) (told : IfSome input.held (λ image. faults (asked_kind q) stages.Whole image ≡ [] → text ≡ asked_text q image)) where
+        (text : List ℕ) (told : IfSome input.held (λ image. faults (asked_kind q) (asked_stage q) image ≡ [] → text ≡ asked_text q image)) where
       stands : Stands (query q file path) before (after out' input')
       stands = record {
         followed = record { source = tt; out = out_used; input = used; output = tt; third = tt };
@@ -125,8 +125,8 @@ module _ (q : Asked) (file : Option (List ℕ)) (path : List ℕ) (others : Obje
         reads = tt;
       }
 
-      found_text : IfSome input.held (λ image. (report ≡ report_of (faults (asked_kind q) stages.Whole image)) × (text ≡ asked_text q image))
-      found_text = two_told input.held (λ image is answers. (is, answers (none_reported (asked_kind q) stages.Whole image report is clean))) right told
+      found_text : IfSome input.held (λ image. (report ≡ report_of (faults (asked_kind q) (asked_stage q) image)) × (text ≡ asked_text q image))
+      found_text = two_told input.held (λ image is answers. (is, answers (none_reported (asked_kind q) (asked_stage q) image report is clean))) right told
 
       pub query_done : out'.access ≡ 1 → Appends text out.written out'.written
           → IsFinished (query q file path) before (after out' input') (query_status report) (query_line report)
@@ -146,10 +146,8 @@ module _ (q : Asked) (file : Option (List ℕ)) (path : List ℕ) (others : Obje
           → IsStopped (query q file path) before (after out' input') stop
       query_unput Device front unput = stopped Device refl (λ e. cc) (inl unput) front
       query_unput Stream front unput = stopped Stream refl (λ e. cc) (inr unput) front
-      query_unput Memory front unput = stopped Memory refl (λ e. cc) (record {
-        past_super = λ e. absurd cc;
-        sound = one_told input.held (λ image is. none_at_super (asked_kind q) stages.Whole image (none_reported (asked_kind q) stages.Whole image report is clean)) right;
-      }) front
+      query_unput Memory front unput = stopped Memory refl (λ e. cc)
+          (one_told input.held (λ image is. none_at_super (asked_kind q) (asked_stage q) image (none_reported (asked_kind q) (asked_stage q) image report is clean)) right) front
 
 -- what is only read after it was opened
 pub reads_used : (path : List ℕ) (input input' : DeviceState) → OnlyReads input input' → IsUsed (reading path) input.access input.path → IsUsed (reading path) input'.access input'.path

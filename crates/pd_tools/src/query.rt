@@ -7,7 +7,7 @@ ghost use Rattle.pd_image.specs.Device.{OnlyReads};
 ghost use Rattle.pd_spells.specs.Lines.{reported_lines};
 ghost use Rattle.pd_answers.specs.Answer.{Objects, IsUsed, reading};
 ghost use Rattle.pd_answers.specs.Promises.{query as terms_of_query};
-ghost use Rattle.pd_answers.specs.QueryLines.{asked_kind, asked_text};
+ghost use Rattle.pd_answers.specs.QueryLines.{asked_kind, asked_stage, asked_text};
 ghost use Rattle.pd_query.specs.Puts.{PutsAnswer};
 ghost use Rattle.pd_words.specs.Words.{asked_as};
 ghost use Rattle.pd_tools.specs.Notes.{PutsLine};
@@ -18,14 +18,15 @@ use crate::check::read_report;
 use crate::stop::Stop;
 use pd_dumps::{TextOfCache, TextOfEra, WrittenSince};
 use pd_image::{Device, Sink};
-use pd_kinds::{Kind, Report, Stage};
+use pd_kept::KeptOfPool;
+use pd_kinds::{Kind, Report};
 use pd_lines::print_report;
 use pd_query::{Query, QueryFault, TextOfPool, TextOfShape};
 use pd_uses::{DeviceList, ReverseMap};
 use pd_words::Asked;
 use std::alloc::Global;
 
-/// Checks the image at the path up to the stage Whole, and puts the text that answers to the file, or to the
+/// Checks the image at the path up to the stage of what is asked, and puts the text that answers to the file, or to the
 /// standard output. Where the image has faults, their report goes to `notes`, and `out` isn't attached.
 pub fn run_query<K: Sink, E: Sink, A: Device>(
     alloc: Global,
@@ -83,7 +84,7 @@ fn query_image<K: Sink, A: Device>(
         let terms = terms_of_query (asked_as asked) (option_copied file.entry) image.now in
         MatchResult result (λ report. IsFinished terms before after (query_status report) (query_line report)) (IsStopped terms before after) }
 {
-    let report = read_report(alloc, asked.kind(), Stage::Whole, image, false, input)?;
+    let report = read_report(alloc, asked.kind(), asked.stage(), image, false, input)?;
     if !report.is_empty() {
         return Ok(report);
     }
@@ -101,7 +102,7 @@ fn put_text<K: Sink, A: Device>(
 ) -> Result<(), Stop>
     requires out { (K.state out.old).access ≡ 0 }
     requires input { (A.state input.old).access ≡ 1 }
-    ensures text { PutsAnswer (asked_kind (asked_as asked)) (asked_text (asked_as asked)) result (A.state input.old).held (K.state out.old).written (K.state out.new).written }
+    ensures text { PutsAnswer (asked_kind (asked_as asked)) (asked_stage (asked_as asked)) (asked_text (asked_as asked)) result (A.state input.old).held (K.state out.old).written (K.state out.new).written }
     ensures kept { OnlyReads (A.state input.old) (A.state input.new) }
     ensures used { IsUsed (reading (unwrap_or (option_copied file.entry) [])) (K.state out.new).access (K.state out.new).path }
     ensures access { OnOk result ((K.state out.new).access ≡ 1) }
@@ -117,6 +118,7 @@ fn put_text<K: Sink, A: Device>(
         }
         Asked::DeviceList => put_answer(alloc, &DeviceList, file, out, input),
         Asked::Since { era } => put_answer(alloc, &WrittenSince { era }, file, out, input),
+        Asked::Kept => put_answer(alloc, &KeptOfPool, file, out, input),
     }
 }
 
@@ -130,7 +132,7 @@ fn put_answer<Q: Query, K: Sink, A: Device>(
 ) -> Result<(), Stop>
     requires out { (K.state out.old).access ≡ 0 }
     requires input { (A.state input.old).access ≡ 1 }
-    ensures text { PutsAnswer Q.kind (Q.answer query.now) result (A.state input.old).held (K.state out.old).written (K.state out.new).written }
+    ensures text { PutsAnswer Q.kind Q.stage (Q.answer query.now) result (A.state input.old).held (K.state out.old).written (K.state out.new).written }
     ensures kept { OnlyReads (A.state input.old) (A.state input.new) }
     ensures used { IsUsed (reading (unwrap_or (option_copied file.entry) [])) (K.state out.new).access (K.state out.new).path }
     ensures access { OnOk result ((K.state out.new).access ≡ 1) }

@@ -238,7 +238,8 @@ fn run_request<S: Source, K: Sink, E: Sink, A: Device, B: Device, C: Device>(
         | Request::DumpShared { .. }
         | Request::Rmap { .. }
         | Request::List { .. }
-        | Request::Since { .. } => unreachable!(),
+        | Request::Since { .. }
+        | Request::DryRun { .. } => unreachable!(),
     }
 }
 

@@ -185,7 +185,10 @@ unreachable-requires g c =
           | inl region ↦ rw region.4 at none
           | inr last ↦ elim last [
             | inl devices ↦ rw devices.2 at none
-            | inr since ↦ rw since.3 at none
+            | inr rest ↦ elim rest [
+              | inl since ↦ rw since.3 at none
+              | inr kept ↦ rw kept.1 at none
+            ]
           ]
         ]
       ]
