@@ -1,9 +1,11 @@
-//! Tests of whole runs, over objects in memory, that write a pool: restores, repairs, searches for the roots of pools whose
-//! superblock is lost, shrinks, and checks that clear the flag "needs check".
+//! Tests of whole runs, over objects in memory, that write a pool: restores, repairs and what they would keep, searches for the
+//! roots of pools whose superblock is lost, shrinks, and checks that clear the flag "needs check".
 #![tactic(auto)]
 
 #[cfg(test)]
 mod flag_tests;
+#[cfg(test)]
+mod kept_tests;
 #[cfg(test)]
 mod lost;
 #[cfg(test)]

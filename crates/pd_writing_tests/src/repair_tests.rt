@@ -16,7 +16,7 @@ use std::process::Abort;
 use std::test::Fail;
 
 /// A device with one mapping, whose transaction isn't the pool's.
-const ONE: &str =
+pub(crate) const ONE: &str =
     "thin 1\npool 00000000-0000-0000-0000-000000000000 0 7 128 1\ndevice 1 1 3 0 0\nmap 0 0 1 0\nend\n";
 
 /// A device whose mappings stand in three leaves.

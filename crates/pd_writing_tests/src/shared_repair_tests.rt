@@ -18,9 +18,9 @@ use std::process::Abort;
 use std::test::Fail;
 
 /// The words of a repair, of one that keeps what is shared, and of a search that does.
-const PLAIN: &[&str] = &["thin_repair", "-i", "image", "-o", "repaired"];
+pub(crate) const PLAIN: &[&str] = &["thin_repair", "-i", "image", "-o", "repaired"];
 
-const SHARED: &[&str] = &["thin_repair", "--shared", "-i", "image", "-o", "repaired"];
+pub(crate) const SHARED: &[&str] = &["thin_repair", "--shared", "-i", "image", "-o", "repaired"];
 
 const SEARCH: &[&str] = &[
     "thin_repair",
@@ -38,7 +38,7 @@ const SEARCH: &[&str] = &[
 ];
 
 /// Two devices whose mappings are one leaf, and the same where nothing is left of the leaf.
-const TWO_ON_ONE_LEAF: &str =
+pub(crate) const TWO_ON_ONE_LEAF: &str =
     "thin 2\npool 00000000-0000-0000-0000-000000000000 0 0 128 2\nleaf 0 2\nmap 0 0 2 0\ndevice 1 2 0 0 0\nuse 0\ndevice 2 2 0 0 0\nuse 0\nend\n";
 
 const TWO_EMPTY: &str =
@@ -70,7 +70,7 @@ fn repair(
 }
 
 /// The blocks that a repair makes of so many blocks of ones, on which there is just room for it, by what it puts.
-fn repaired(
+pub(crate) fn repaired(
     alloc: Global,
     words: &[&str],
     image: &[Block],
