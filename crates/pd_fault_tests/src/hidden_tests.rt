@@ -134,6 +134,12 @@ const READING: &[Row] = &[
         "device 1 mapped 1 exclusive 1 shared 0 transaction 0 created 0 snapped 0\n",
     ),
     (
+        THIN,
+        ONE,
+        &["thin_repair", "--dry-run", "-i", "x"],
+        "device 1 kept 1 of 1\nkeeps 1 1 need 10 shared 10\n",
+    ),
+    (
         ERA,
         TARGET_TEXT,
         &["era_invalidate", "--written-since", "9", "x"],
