@@ -99,7 +99,7 @@ PREFIX=$prefix
 export PREFIX
 # what can be given to each tool, as pd_word_list prints it of the program's table
 table=$here/crates/pd_word_list/stdout
-tools=$(cut -d ' ' -f 1 "$table")
+tools=$(cut -d ' ' -f 1 "$table" | uniq)
 mkdir -p "$prefix/sbin"
 echo 'of another' >"$prefix/sbin/thin_check"
 try 1 "$here/install"
@@ -137,7 +137,7 @@ plain() {
 synopsis_of() {
     awk '/^\.Sh/ { on = ($2 == "SYNOPSIS"); next }
         !on { next }
-        /^\.Nm/ { printf "%s", tool; next }
+        /^\.Nm/ { printf "%s%s", space, tool; space = " "; next }
         /^\.Oo/ { open = "["; next }
         /^\.Oc/ { printf "]"; next }
         {
@@ -162,21 +162,21 @@ for tool in $tools; do
     same wanted got
 done
 
-# the words of options: those that take a value end without a bracket
-tr ' ' '\n' <"$table" | sed -n 's/^\[*-/-/p' | sort -u >options
+# the words of options, with their values
+grep -oE -e '--?[a-z][a-z-]*( [A-Z][A-Z.]*)?' "$table" | sort -u >options
 sed -n '/^takes_value() {/,/^}/p' "$here/commands/tool" >takes_value.sh
 what='the options with a value'
 # shellcheck disable=SC1091
 . ./takes_value.sh
-while read -r option; do
-    case $option in
-    *']') ! takes_value "${option%]}" || bad "${option%]} has no value" ;;
+while read -r option value; do
+    case $value in
+    '') ! takes_value "$option" || bad "$option has no value" ;;
     *) takes_value "$option" || bad "$option has a value" ;;
     esac
-    tr -s ' ";' '\n' <"$here/install" | grep -qx -e "${option%]}" || bad "./install doesn't try ${option%]}"
+    tr -s ' ";' '\n' <"$here/install" | grep -qx -e "$option" || bad "./install doesn't try $option"
 done <options
 tr -s ' );|' '\n' <takes_value.sh | grep '^-' | sort >got
-grep -v ']$' options | sort >wanted
+sed -n 's/ .*//p' options | sort -u >wanted
 same wanted got
 
 # The program takes what the table has: all of it, and only what is wanted; nothing twice, and nothing that is wanted left out
@@ -731,11 +731,19 @@ out
 notes 'pdata_tools: device fault' "thin_dump: $first" "thin_dump: $helps"
 zeros wanted.img 1024
 try 0 thin_repair -i zeroed.img -o wanted.img
+try 0 thin_repair --dry-run -i zeroed.img
+kept=$(grep '^device .* of ?$' out)
 for command in thin_repair lvm-thin_repair; do
     zeros fresh.img 1024
     failing 0 failing/$command -i bad.img -o fresh.img
     out
-    notes 'pdata_tools: device fault' "thin_repair: $first" "thin_repair: $of_copy"
+    case $command in
+    thin_repair) notes 'pdata_tools: device fault' "thin_repair: $first" "thin_repair: $of_copy" ;;
+    *)
+        notes 'pdata_tools: device fault' "thin_repair: $first" "thin_repair: $of_copy" \
+            'thin_repair: what is kept of the devices that lost something:' "$kept"
+        ;;
+    esac
     same fresh.img wanted.img
     # no room for a copy
     try 5 env PATH="$tmp/full:$tmp/failing:$PATH" TMPDIR="$tmp/temporary" failing/thin_repair -i bad.img -o fresh.img
@@ -753,6 +761,49 @@ notes 'pdata_tools: device fault'
 zeroed 0
 failing 1 failing/thin_repair -i bad.img -o fresh.img
 notes_have 'fault meta 0 checksum'
+
+# A repair by LVM that loses devices takes an older state that has more, and none where nothing is left
+
+mkdir states
+cat >states/program <<END
+#!/bin/sh
+case "\$*" in
+*--dry-run*) cat '$tmp/told.txt' ;;
+*--transaction-id*)
+    printf '%s\n' "\$*" >'$tmp/searched'
+    [ -s '$tmp/found.txt' ] && cat '$tmp/found.txt'
+    ;;
+*) exec $PROGRAM "\$@" ;;
+esac
+END
+chmod +x states/program
+sed "s|^program=.*|program=$tmp/states/program|" "$lvm/thin_repair" >states/thin_repair
+chmod +x states/thin_repair
+own=$(od -An -tu8 -j320 -N16 thin-pool.img | awk '{ print $1, $2 }')
+printf 'device 1 kept 5 of 5\ndevice 2 lost 9\nkeeps 1 5 need 9 shared 9\n' >told.txt
+echo 'roots 3 4 mappings 9 time 2' >found.txt
+try 0 states/thin_repair -i thin-pool.img -o fresh.img
+out
+notes 'thin_repair: by its superblock 5 mappings of thin-pool.img are left, and 9 in an older state, which is taken: see thin_repair(8)'
+echo 'thin_repair --shared -i thin-pool.img -o fresh.img --transaction-id 5 --data-block-size 128 --nr-data-blocks 4000' >wanted
+same searched wanted
+# it has no more; or it is the superblock's own; or there is none
+for line in 'roots 3 4 mappings 5 time 2' "roots $own mappings 9 time 2" ''; do
+    printf '%s\n' "$line" | sed '/^$/d' >found.txt
+    try 0 states/thin_repair -i thin-pool.img -o fresh.img
+    out
+    notes 'thin_repair: what is kept of the devices that lost something:' 'device 2 lost 9'
+    try 0 thin_dump fresh.img
+    same out thin-pool.txt
+done
+printf 'device 2 lost 9\nkeeps 0 0 need 8 shared 8\n' >told.txt
+try 1 states/thin_repair -i thin-pool.img -o fresh.img
+notes 'thin_repair: by its superblock nothing of thin-pool.img is left, and no older state was found: nothing is repaired; see pdata_tools-lvm(8)'
+# a pool without devices
+echo 'keeps 0 0 need 8 shared 8' >told.txt
+echo "roots $own mappings 0 time 2" >found.txt
+try 0 states/thin_repair -i thin-pool.img -o fresh.img
+notes
 
 # Progress, on a terminal: of a program that takes three seconds after a megabyte
 
@@ -868,6 +919,44 @@ same fresh.img before.img
 zeros small.img 2
 try 4 thin_repair -i leak.img -o small.img
 notes_have 'pdata_tools: no room: need '
+
+# What a dry run tells is what a repair then keeps, on as many blocks and on no fewer
+
+cp lost.img before.img
+try 1 thin_repair --dry-run -i lost.img
+out
+notes 'fault meta 0 checksum' 'faults 1'
+same lost.img before.img
+for name in leak damaged details; do
+    cp $name.img before.img
+    try 0 thin_repair --dry-run --shared -i $name.img
+    mv out told.txt
+    try 0 thin_repair --dry-run -i $name.img
+    same out told.txt
+    notes
+    same $name.img before.img
+    for option in '' --shared; do
+        # keeps DEVICES MAPPINGS need BLOCKS shared BLOCKS
+        case $option in
+        '') need=$(awk '$1 == "keeps" { print $5 }' told.txt) ;;
+        *) need=$(awk '$1 == "keeps" { print $7 }' told.txt) ;;
+        esac
+        zeros fresh.img $((need - 1))
+        # shellcheck disable=SC2086 # an option that isn't there is no word
+        try 4 thin_repair $option -i $name.img -o fresh.img
+        zeros fresh.img "$need"
+        # shellcheck disable=SC2086
+        try 0 thin_repair $option -i $name.img -o fresh.img
+        try 0 thin_dump fresh.img
+        awk '$1 == "device" { print $2, $3; devices++; mappings += $3 } END { print "keeps", devices + 0, mappings + 0 }' out >wanted
+        awk '$3 == "kept" { print $2, $4 } $1 == "keeps" { print $1, $2, $3 }' told.txt | diff wanted - >differs || bad "$name.img: $(cat differs)"
+    done
+done
+# of a sound pool all is kept; without the mapping tree all devices are lost
+try 0 thin_repair --dry-run -i leak.img
+! awk '$1 == "device" && ($3 != "kept" || $4 != $6)' out | grep . || bad 'a device of a sound pool is not whole'
+try 0 thin_repair --dry-run -i damaged.img
+[ "$(grep -c '^device [0-9]* lost [0-9]*$' out)" -eq "$(grep -c '^device ' thin-pool.txt)" ] || bad 'not all devices are lost'
 
 # Two devices whose mappings are one leaf, which is written once where it stays shared
 
@@ -1357,6 +1446,10 @@ zeros fresh.img 1024
 try 0 "$lvm/thin_repair" '' -i leak.img -o fresh.img
 notes
 try 0 thin_check fresh.img
+# the kernel left an older state behind
+try 0 "$lvm/thin_repair" -i damaged.img -o fresh.img
+notes 'thin_repair: by its superblock 0 mappings of damaged.img are left, and 1818 in an older state, which is taken: see thin_repair(8)'
+try 0 thin_check fresh.img
 try 1 "$lvm/thin_repair" -i lost.img -o fresh.img
 notes 'fault meta 0 checksum' 'faults 1' \
     "thin_repair: the superblock of lost.img has faults: by hand, thin_repair can search for the trees without it; $page"
@@ -1592,7 +1685,7 @@ END
     complete=$prefix/share/bash-completion/completions/pdata_tools
     # the table's options, and what its values are
     for tool in $tools; do
-        grep "^$tool " "$table" | tr ' ' '\n' | tr -d '[]' | grep '^-' >options
+        grep "^$tool " "$table" | tr ' ' '\n' | tr -d '[]' | grep '^-' | awk '!seen[$0]++' >options
         try 0 bash complete.bash "$complete" pdata_tools "$tool" -
         same options out
         grep "^$tool " "$table" | sed -E 's/(-[^] ]*) ([A-Z.]+)/|\1 \2|/g' | tr '|' '\n' | grep '^-' >options
@@ -1608,6 +1701,8 @@ END
     done
     try 0 bash complete.bash "$complete" pdata_tools thin_r
     out thin_restore thin_repair thin_rmap thin_rehearse
+    try 0 bash complete.bash "$complete" thin_repair --dry-run -
+    out --shared -i
     try 0 bash complete.bash "$complete" thin_repair -i lost.img --transaction-id 5 --d
     out --data-block-size
     try 0 bash complete.bash "$complete" thin_check --until w
