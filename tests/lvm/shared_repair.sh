@@ -44,6 +44,7 @@ isnt 'the damaged pool is refused' [ "$rc" = 0 ]
 L lvconvert -y --repair vg/pool
 is 'it is repaired' [ "$rc" = 0 ]
 isnt 'there was room' said 'has to be larger'
+is 'it says what is kept of each volume' [ "$(grep -c 'device [1-9] kept 29988 of 30240' /tmp/said)" = 9 ]
 L vgchange -ay vg
 is 'it is activated' [ "$rc" = 0 ]
 is 'the first volume reads what it read' same /dev/vg/t1 0 2 0
