@@ -769,6 +769,7 @@ cat >states/program <<END
 #!/bin/sh
 case "\$*" in
 *--dry-run*) cat '$tmp/told.txt' ;;
+*'--until whole'*) [ -e '$tmp/whole' ] || exit 1 ;;
 *--transaction-id*)
     printf '%s\n' "\$*" >'$tmp/searched'
     [ -s '$tmp/found.txt' ] && cat '$tmp/found.txt'
@@ -804,6 +805,13 @@ echo 'keeps 0 0 need 8 shared 8' >told.txt
 echo "roots $own mappings 0 time 2" >found.txt
 try 0 states/thin_repair -i thin-pool.img -o fresh.img
 notes
+# nothing is damaged: an older state, with volumes that were removed, isn't looked for
+: >whole
+echo 'roots 3 4 mappings 9 time 2' >found.txt
+rm searched
+try 0 states/thin_repair -i thin-pool.img -o fresh.img
+notes
+[ ! -e searched ] || bad 'a search of a sound pool'
 
 # Progress, on a terminal: of a program that takes three seconds after a megabyte
 
