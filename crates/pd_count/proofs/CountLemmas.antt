@@ -1,7 +1,6 @@
 -- What one number that is put in one chunk comes to for all blocks, and one count more.
 use Rattle.std.proofs.Common.{◌≡◌, ℕ, ◌+◌, ◌*◌, ◌/◌, ◌%◌, ◌<◌, ◌≤◌, List, [], ◌∷◌, ◌++◌, length, get_or, set, sym, ◌∙◌, ap, refl, arith, inl, inr, eqb, cond, get_or-set_same, get_or-set_other}
-use Rattle.std.specs.Prelude.{count_by, Option, None, Some, MatchOption}
-use Rattle.std.proofs.Common.{Bor}
+use Rattle.std.specs.Prelude.{count_by}
 use Rattle.std.proofs.lemmas.List.{get_or_default}
 use Rattle.std.proofs.lemmas.List.Sums.{sum_by_push}
 use Rattle.std.proofs.lemmas.Bool.{cases_eq, eq-eqb, ne_eqb}
@@ -72,16 +71,13 @@ pub chunk_counts : (size : ℕ) (chunks : List (List ℕ)) (i k : ℕ) → k < 1
 unfolding count_of
 chunk_counts size chunks i k within = let place = place_in_chunk i k within in rw (place.0, place.1) refl
 
--- what a chunk tells where it has numbers, and where it has none
-pub chunk_told : (counts : Counted) (i : ℕ) (chunk : List ℕ) (numbers : Option (Bor (List ℕ)))
-    → ((k : ℕ) → k < 16320 → count_of counts (16320 * i + k) ≡ get_or chunk k 0)
-    → MatchOption numbers (chunk ≡ []) (λ xs. (xs.now ≡ chunk) × (length chunk ≡ 16320))
-    → MatchOption numbers (IsUncounted counts i) (λ xs. IsChunk counts i xs.now)
-chunk_told counts i chunk None counted told = λ k within. counted k within ∙ ap (λ (xs : List ℕ). get_or xs k 0) told
-chunk_told counts i chunk (Some numbers) counted told = record {
-  full = ap (length {A = ℕ}) told.0 ∙ told.1;
-  counted = λ k within. ap (λ (xs : List ℕ). get_or xs k 0) told.0 ∙ sym (counted k within);
-}
+-- what a chunk tells where it is made, and where it isn't
+module _ (counts : Counted) (i : ℕ) (chunk : List ℕ) (counted : (k : ℕ) → k < 16320 → count_of counts (16320 * i + k) ≡ get_or chunk k 0) where
+  pub chunk_made : length chunk ≡ 16320 → IsChunk counts i chunk
+  chunk_made size = record { full = size; counted = λ k within. sym (counted k within) }
+
+  pub chunk_absent : chunk ≡ [] → IsUncounted counts i
+  chunk_absent none = λ k within. counted k within ∙ ap (λ (xs : List ℕ). get_or xs k 0) none
 
 -- no block past the last one was counted, also after one more count
 pub none_past : (b size : ℕ) (old new : Counted) → b < size → CountsOneMore b old new

@@ -1,1 +1,4 @@
 pub mod CountLemmas
+pub mod DigitLemmas
+pub mod EntryLemmas
+pub mod FormLemmas

@@ -1,25 +1,45 @@
 //! The numbers of the blocks that one bitmap covers.
 
-ghost use Rattle.std.specs.Prelude.{◌≡◌, ℕ, ◌+◌, ◌-◌, ◌^◌, ◌<◌, [], length, slice_index, slice_index_or, IfOk, OnOk, OnErr, MatchOption};
+ghost use Rattle.std.specs.Prelude.{◌≡◌, ℕ, ◌+◌, ◌-◌, ◌^◌, ◌<◌, ◌≤◌, ◌==◌, [], true, false, take, length, slice_index, slice_index_or, IfOk, OnOk, OnErr, MatchOption};
+ghost use Rattle.std.specs.List.{count_by};
 
-use crate::CHUNK_COUNTS;
+use crate::few::{self, Entry};
+use crate::{CHUNK_COUNTS, dense};
 use std::alloc::{AllocError, Global};
 use std::marker::Model;
 
+/// How many places may stand in a list. The digits of all places are made when one more number is put, so that they take
+/// less than 64 bytes for each time that a place was counted.
+const FEW_PLACES: usize = 256;
+
+/// How the numbers are kept.
+#[derive(Drop)]
+enum Form {
+    /// The places that have a number.
+    Few(Vec<Entry>),
+    /// The digits of all places.
+    Dense(Vec<u8>),
+}
+
 /// 16320 numbers, or nothing where each of them is 0.
+///
+/// A chunk takes 32 bytes. While at most 256 places have a number it takes 8 bytes more for each of them, in a list that
+/// has room for 4 and doubles as it grows. From then on it takes a byte more for each of the 16320 places, two where a
+/// number above 255 was put, and four where one above 65535 was put.
 #[derive(Drop)]
 pub struct Chunk {
-    numbers: Vec<u32>,
+    form: Form,
 }
 
 impl Model for Chunk {
-    ghost use Rattle.std.specs.Prelude.{◌≡◌, ℕ, ◌<◌, List, length};
+    ghost use Rattle.std.specs.Prelude.{List, ℕ};
+    ghost use Rattle.pd_count.specs.Forms.{IsForm, form_numbers};
 
     ghost Value = { List ℕ };
 
-    ghost view = { λ c. c.numbers.items };
+    ghost view = { λ c. form_numbers c.form };
 
-    ghost invariant = { λ c. 0 < length c.numbers.items → length c.numbers.items ≡ 16320 };
+    ghost invariant = { λ c. IsForm c.form };
 }
 
 impl Chunk {
@@ -30,7 +50,18 @@ impl Chunk {
         ensures { result ≡ [] }
     {
         Chunk {
-            numbers: Vec::new(alloc),
+            form: Form::Few(Vec::new(alloc)),
+        }
+    }
+
+    /// Whether a number was put.
+    pub(crate) fn is_made(&self) -> bool
+        ensures made { result ≡ true → length self.now ≡ 16320 }
+        ensures absent { result ≡ false → self.now ≡ [] }
+    {
+        match &self.form {
+            Form::Few(entries) => !entries.is_empty(),
+            Form::Dense(_) => true,
         }
     }
 
@@ -38,18 +69,13 @@ impl Chunk {
     pub fn get(&self, at: usize) -> u32
         ensures { result ≡ slice_index self.now at }
     {
-        self.numbers.get(at).copied().unwrap_or(0)
-    }
-
-    /// The numbers, or `None` where the chunk isn't made.
-    pub(crate) fn numbers(&self) -> Option<&[u32]>
-        ensures { MatchOption result (self.now ≡ []) (λ numbers. (numbers.now ≡ self.now) × (length self.now ≡ 16320)) }
-    {
-        let numbers = self.numbers.as_slice();
-        if numbers.is_empty() {
-            None
-        } else {
-            Some(numbers)
+        let form = &self.form;
+        if at >= CHUNK_COUNTS {
+            return 0;
+        }
+        match form {
+            Form::Few(entries) => few::entered_number(entries, at as u16),
+            Form::Dense(digits) => dense::number(digits, at),
         }
     }
 
@@ -61,9 +87,45 @@ impl Chunk {
         ensures put { OnOk result (PutsAt at number self.old self.new) }
         ensures err { OnErr result (self.new ≡ self.old) }
     {
-        make(&mut self.numbers)?;
-        self.numbers[at] = number;
+        if self.is_full() {
+            self.spread()?;
+        }
+        self.put(at, number)
+    }
+
+    /// Whether the list of places is as long as it may be.
+    fn is_full(&self) -> bool
+        ensures { result ≡ true → length self.now ≡ 16320 }
+    {
+        match &self.form {
+            Form::Few(entries) => entries.len() >= FEW_PLACES,
+            Form::Dense(_) => false,
+        }
+    }
+
+    /// Gives digits to all places. Want of memory leaves all as before, as each number is in any case.
+    fn spread(&mut self) -> Result<(), AllocError>
+        requires { length self.old ≡ 16320 }
+        ensures { self.new ≡ self.old }
+    {
+        let Form::Few(entries) = &self.form else {
+            return Ok(());
+        };
+        let digits = dense::spread(*entries.allocator(), entries)?;
+        self.form = Form::Dense(digits);
         Ok(())
+    }
+
+    /// Puts a number at a place, in the form that is there. Want of memory leaves all as before.
+    fn put(&mut self, at: usize, number: u32) -> Result<(), AllocError>
+        requires { at < 16320 }
+        ensures put { OnOk result (PutsAt at number self.old self.new) }
+        ensures err { OnErr result (self.new ≡ self.old) }
+    {
+        match &mut self.form {
+            Form::Few(entries) => few::enter(entries, at as u16, number),
+            Form::Dense(digits) => dense::put(digits, at, number),
+        }
     }
 
     /// Raises the number at a place by one, and makes the chunk where it isn't there. Want of memory leaves all as
@@ -74,9 +136,74 @@ impl Chunk {
         ensures added { OnOk result (PutsAt at (slice_index self.old at + 1) self.old self.new) }
         ensures err { OnErr result (self.new ≡ self.old) }
     {
-        make(&mut self.numbers)?;
-        self.numbers[at] += 1;
-        Ok(())
+        if self.raise(at) {
+            return Ok(());
+        }
+        let number = self.get(at);
+        self.set(at, number + 1)
+    }
+
+    /// Raises the number at a place by one where that takes no more digits, and tells whether it did.
+    fn raise(&mut self, at: usize) -> bool
+        requires { at < 16320 }
+        ensures raised { result ≡ true → PutsAt at (slice_index self.old at + 1) self.old self.new }
+        ensures same { result ≡ false → self.new ≡ self.old }
+    {
+        match &mut self.form {
+            Form::Few(_) => false,
+            Form::Dense(digits) => dense::raise(digits, at),
+        }
+    }
+
+    /// Whether all of so many numbers from a place on are seen to be this one. It takes no memory.
+    ///
+    /// Of a chunk of few numbers only the number 0 is seen.
+    pub fn are_all(&self, at: usize, len: usize, number: u32) -> bool
+        requires { at + len ≤ 16320 }
+        ensures { result ≡ true → (k : ℕ) → k < len → slice_index self.now (at + k) ≡ number }
+    {
+        match &self.form {
+            Form::Few(entries) => number == 0 && few::are_none(entries, at, len),
+            Form::Dense(digits) => dense::are_all(digits, at, len, number),
+        }
+    }
+
+    /// How many of the first `covered` numbers of a chunk that is made are 0. It takes no memory.
+    pub fn zeros(&self, covered: usize) -> usize
+        requires made { length self.now ≡ 16320 }
+        requires covered { covered ≤ 16320 }
+        ensures zeros { result ≡ count_by (λ n. n == 0) (take covered self.now) }
+        ensures most { result ≤ covered }
+    {
+        match &self.form {
+            Form::Few(entries) => covered - few::counted_below(entries, covered),
+            Form::Dense(digits) => dense::zeros(digits, covered),
+        }
+    }
+
+    /// The first place with a number of `least` or more, from a place on. It takes no memory.
+    pub fn first(&self, from: usize, least: u32) -> Option<usize>
+        requires from { from ≤ 16320 }
+        requires least { 0 < least }
+        ensures { MatchOption result ((k : ℕ) → from ≤ k → slice_index self.now k < least)
+            (λ at. (from ≤ at) × ((at < 16320) × ((least ≤ slice_index self.now at) × ((k : ℕ) → from ≤ k → k < at → slice_index self.now k < least)))) }
+    {
+        match &self.form {
+            Form::Few(entries) => few::first_entered(entries, from, least),
+            Form::Dense(digits) => dense::first(digits, from, least),
+        }
+    }
+
+    /// Writes the numbers of a chunk that is made. It takes no memory.
+    pub fn copy(&self, numbers: &mut [u32])
+        requires made { length self.now ≡ 16320 }
+        requires size { length numbers.old ≡ 16320 }
+        ensures { numbers.new ≡ self.now }
+    {
+        match &self.form {
+            Form::Few(entries) => few::copy(entries, numbers),
+            Form::Dense(digits) => dense::copy(digits, numbers),
+        }
     }
 }
 
@@ -92,28 +219,4 @@ pub fn absent_chunks(alloc: Global, places: usize) -> Result<Vec<Chunk>, AllocEr
         chunks.push(Chunk::absent(alloc))?;
     }
     Ok(chunks)
-}
-
-/// Makes the numbers of a chunk, as zeros, where it has none. Want of memory leaves all as before.
-fn make(numbers: &mut Vec<u32>) -> Result<(), AllocError>
-    requires { 0 < length numbers.old.items → length numbers.old.items ≡ 16320 }
-    ensures full { OnOk result (length numbers.new.items ≡ 16320) }
-    ensures same { OnOk result ((k : ℕ) → slice_index numbers.new.items k ≡ slice_index numbers.old.items k) }
-    ensures err { OnErr result (numbers.new.items ≡ numbers.old.items) }
-{
-    if numbers.is_empty() {
-        fill(numbers, CHUNK_COUNTS)
-    } else {
-        Ok(())
-    }
-}
-
-/// Makes so many zeros of no numbers. Want of memory leaves all as before.
-fn fill(numbers: &mut Vec<u32>, count: usize) -> Result<(), AllocError>
-    requires { numbers.old.items ≡ [] }
-    ensures len { OnOk result (length numbers.new.items ≡ count) }
-    ensures zeros { OnOk result ((k : ℕ) → slice_index numbers.new.items k ≡ 0) }
-    ensures err { OnErr result (numbers.new.items ≡ []) }
-{
-    numbers.resize(count, 0)
 }

@@ -9,8 +9,9 @@ use std::marker::Model;
 
 /// How often each of so many blocks was counted.
 ///
-/// The counts stand in chunks of 16320, and a chunk is made when a block in it is first counted: 24 bytes a chunk,
-/// and 65280 more where it is made.
+/// The counts stand in chunks of 16320, and a chunk is made when a block in it is first counted: 32 bytes a chunk, and
+/// more where it is made, as `Chunk` tells. That is at most 64 bytes for each time that a block was counted, and a byte
+/// for each block where blocks lie close and none was counted more than 255 times.
 #[derive(Drop)]
 pub struct Counts {
     size: u64,
@@ -46,8 +47,7 @@ impl Counts {
         })
     }
 
-    /// Counts the block once more. It takes memory only where the block is the first one of its chunk that is
-    /// counted.
+    /// Counts the block once more. It takes memory only where the chunk of the block has no room for its count.
     ///
     /// Fails with `AllocError` where that memory wasn't found; then all is as before.
     pub fn add(&mut self, b: u64) -> Result<(), AllocError>
@@ -83,12 +83,12 @@ impl Counts {
         self.size
     }
 
-    /// The 16320 counts from block `16320 * i` on, or `None` where none of these blocks was counted. Those past the
-    /// last block are 0. It takes no memory.
-    pub fn chunk(&self, i: u64) -> Option<&[u32]>
-        ensures { MatchOption result (IsUncounted self.now i) (λ numbers. IsChunk self.now i numbers.now) }
+    /// The chunk of the 16320 blocks from block `16320 * i` on, or `None` where none of these blocks was counted. The
+    /// counts past the last block are 0. It takes no memory.
+    pub fn chunk(&self, i: u64) -> Option<&Chunk>
+        ensures { MatchOption result (IsUncounted self.now i) (λ chunk. IsChunk self.now i chunk.now) }
     {
         let chunk = self.chunks.get(i as usize)?;
-        chunk.numbers()
+        if chunk.is_made() { Some(chunk) } else { None }
     }
 }

@@ -4,6 +4,8 @@
 
 mod chunk;
 mod counts;
+mod dense;
+mod few;
 
 pub use chunk::{Chunk, absent_chunks};
 pub use counts::Counts;

@@ -27,12 +27,138 @@ fn count(rt: &impl Abort, counts: &mut Counts, b: u64) -> Result<(), Fail>
     Ok(())
 }
 
+/// Blocks that are counted: so many from `first` on, `step` apart, each so many times, and the last one first where they
+/// descend.
+#[derive(Clone, Copy)]
+struct Counting {
+    first: u64,
+    step: u64,
+    number: u64,
+    times: u32,
+    descends: bool,
+}
+
+impl Counting {
+    /// The block with this number among them.
+    fn block(&self, k: u64) -> u64 {
+        self.first.saturating_add(self.step.saturating_mul(k))
+    }
+
+    /// The block that is counted at this turn.
+    fn block_at(&self, turn: u64) -> u64 {
+        if self.descends {
+            self.block(self.number.saturating_sub(turn).saturating_sub(1))
+        } else {
+            self.block(turn)
+        }
+    }
+}
+
+/// Blocks that are counted: the first one, how far they lie apart, how many they are, how often each is counted, and
+/// whether the last one comes first.
+type CountRow = (u64, u64, u64, u32, bool);
+
+/// So many blocks the tables of these rows have.
+const BLOCKS: u64 = 1000000;
+
+/// The forms of a chunk, and its first changes.
+const COUNTINGS: &[CountRow] = &[
+    (3, 1, 1, 255, false),
+    (3, 1, 1, 256, false),
+    (3, 1, 256, 1, false),
+    (3, 1, 257, 1, false),
+    (3, 1, 256, 2, true),
+    (3, 1, 257, 2, true),
+    (0, 63, 259, 3, false),
+    (16319, 1, 2, 3, false),
+    (16200, 1, 600, 1, true),
+    (7, 16320, 5, 4, false),
+    (999999, 1, 1, 2, false),
+    (999700, 1, 300, 1, true),
+];
+
+/// The blocks of a row.
+fn counting_of(row: CountRow) -> Counting {
+    let (first, step, number, times, descends) = row;
+    Counting {
+        first,
+        step,
+        number,
+        times,
+        descends,
+    }
+}
+
+/// Counts the block once more. Where memory isn't there at first the count is as before, and is tried once more.
+fn count_again(rt: &impl Abort, counts: &mut Counts, b: u64) -> Result<(), Fail> {
+    assert!(rt; b < counts.size());
+    let before = counts.get(b);
+    assert!(rt; before < u32::MAX);
+    if counts.add(b).is_err() {
+        assert!(rt; b < counts.size());
+        assert!(rt; counts.get(b) == before);
+        counts.add(b)?;
+    }
+    Ok(())
+}
+
+/// Counts the blocks, in their order.
+fn count_all(rt: &impl Abort, counts: &mut Counts, counting: &Counting) -> Result<(), Fail> {
+    for turn in 0..counting.number {
+        for _ in 0..counting.times {
+            count_again(rt, counts, counting.block_at(turn))?;
+        }
+    }
+    Ok(())
+}
+
+/// The block has this count.
+fn expect_count(rt: &impl Abort, counts: &Counts, b: u64, count: u32) {
+    if b < counts.size() {
+        assert!(rt; counts.get(b) == count, "{b}");
+    }
+}
+
+/// Each of the blocks has its count, and the blocks beside it have none.
+fn expect_counting(rt: &impl Abort, counts: &Counts, counting: &Counting) {
+    for k in 0..counting.number {
+        let b = counting.block(k);
+        expect_count(rt, counts, b, counting.times);
+        if counting.step > 1 {
+            expect_count(rt, counts, b.saturating_add(1), 0);
+        }
+    }
+    expect_count(rt, counts, counting.block(counting.number), 0);
+}
+
 #[test]
-fn a_block_is_counted_as_often_as_it_was_added(rt: HostRuntime) -> Result<(), Fail> {
-    let mut counts = Counts::new(rt.alloc(), 10)?;
-    count(&rt, &mut counts, 3)?;
-    count(&rt, &mut counts, 3)?;
-    assert!(rt; [counts.get(3), counts.get(4)] == [2, 0]);
+fn blocks_are_counted_as_often_as_they_were_added(rt: HostRuntime) -> Result<(), Fail> {
+    for row in COUNTINGS {
+        let counting = counting_of(*row);
+        let mut counts = Counts::new(rt.alloc(), BLOCKS)?;
+        count_all(&rt, &mut counts, &counting)?;
+        expect_counting(&rt, &counts, &counting);
+    }
+    Ok(())
+}
+
+/// The counts at which a block's count needs another byte, and those before them.
+const MARKS: &[u32] = &[255, 256, 65535, 65536];
+
+#[test]
+fn one_block_of_many_has_a_great_count(rt: HostRuntime) -> Result<(), Fail> {
+    let mut counts = Counts::new(rt.alloc(), 600)?;
+    count_all(&rt, &mut counts, &counting_of((0, 2, 300, 1, false)))?;
+    let mut times = 0;
+    for mark in MARKS {
+        for _ in times..*mark {
+            count_again(&rt, &mut counts, 5)?;
+        }
+        times = *mark;
+        expect_count(&rt, &counts, 5, times);
+        expect_count(&rt, &counts, 4, 1);
+        expect_count(&rt, &counts, 7, 0);
+    }
     Ok(())
 }
 

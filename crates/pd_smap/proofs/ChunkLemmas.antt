@@ -1,6 +1,5 @@
 -- The counts of a run of blocks within one chunk.
-use Rattle.std.proofs.Common.{◌≡◌, ℕ, ◌+◌, ◌*◌, ◌/◌, ◌%◌, ◌<◌, ◌≤◌, List, length, take, drop, get_or, sym, ◌∙◌, ap, arith, length-drop}
-use Rattle.std.proofs.lemmas.List.{get_or-take, get_or-drop, length-take-le}
+use Rattle.std.proofs.Common.{◌≡◌, ℕ, ◌+◌, ◌*◌, ◌/◌, ◌%◌, ◌<◌, ◌≤◌, List, get_or, sym, ◌∙◌, ap, arith}
 use Rattle.std.proofs.Math.Nat.{div-add-mod}
 use Rattle.pd_count.specs.Counted.{Counted, count_of, IsChunk, IsUncounted}
 
@@ -9,15 +8,10 @@ by_place : (first k : ℕ) → 16320 * (first / 16320) + (first % 16320 + k) ≡
 by_place first k = omega (arith, div-add-mod first 16320)
 
 -- each count of the run is this one where each number of the chunk's part is
-pub run_counts : (counts : Counted) (first len count m : ℕ) (numbers : List ℕ) → m ≡ len → first % 16320 + len ≤ 16320
-    → IsChunk counts (first / 16320) numbers
-    → ((k : ℕ) → k < length (take m (drop (first % 16320) numbers)) → get_or (take m (drop (first % 16320) numbers)) k 0 ≡ count)
-    → (k : ℕ) → k < len → count_of counts (first + k) ≡ count
-run_counts counts first len count m numbers same within chunk all k below =
-    let room : m ≤ length (drop (first % 16320) numbers) = omega (arith, length-drop (first % 16320) numbers, chunk.full, same) in
-    let is : get_or (take m (drop (first % 16320) numbers)) k 0 ≡ count = all k (omega (arith, length-take-le m (drop (first % 16320) numbers) room, same)) in
-    ap (count_of counts) (sym (by_place first k)) ∙ sym (chunk.counted (first % 16320 + k) (omega arith))
-    ∙ sym (get_or-take m (drop (first % 16320) numbers) k 0 (omega (arith, same)) ∙ get_or-drop (first % 16320) numbers k 0) ∙ is
+pub run_counts : (counts : Counted) (first len count : ℕ) (numbers : List ℕ) → first % 16320 + len ≤ 16320 → IsChunk counts (first / 16320) numbers
+    → ((k : ℕ) → k < len → get_or numbers (first % 16320 + k) 0 ≡ count) → (k : ℕ) → k < len → count_of counts (first + k) ≡ count
+run_counts counts first len count numbers within chunk all k below =
+    ap (count_of counts) (sym (by_place first k)) ∙ (sym (chunk.counted (first % 16320 + k) (omega arith)) ∙ all k below)
 
 -- and each is 0 where the chunk wasn't counted
 pub run_uncounted : (counts : Counted) (first len : ℕ) → first % 16320 + len ≤ 16320 → IsUncounted counts (first / 16320)

@@ -1,6 +1,6 @@
 //! How often the blocks of a space are referred to, as a comparison asks for it.
 
-ghost use Rattle.std.specs.Prelude.{◌≡◌, ℕ, ◌+◌, ◌%◌, ◌<◌, ◌≤◌, true, length, slice_index};
+ghost use Rattle.std.specs.Prelude.{◌≡◌, ℕ, ◌+◌, ◌%◌, ◌<◌, ◌≤◌, true};
 ghost use Rattle.pd_kinds.specs.declared.fault.Space.{Space as SpaceOf};
 
 use pd_count::{CHUNK_COUNTS, Counts};
@@ -95,15 +95,8 @@ impl References for DataReferences<'_> {
         let counts = self.0;
         let at = (first % CHUNK_COUNTS as u64) as usize;
         match counts.chunk(first / CHUNK_COUNTS as u64) {
-            Some(numbers) => all_are(&numbers[at..at + len as usize], count),
+            Some(chunk) => chunk.are_all(at, len as usize, count),
             None => count == 0,
         }
     }
-}
-
-/// Whether all of the numbers are this one.
-fn all_are(numbers: &[u32], wanted: u32) -> bool
-    ensures { result ≡ true → (k : ℕ) → k < length numbers.now → slice_index numbers.now k ≡ wanted }
-{
-    numbers.iter().all(|n| *n == wanted)
 }

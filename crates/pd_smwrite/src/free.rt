@@ -1,7 +1,6 @@
 //! How many blocks have a count, and how many have none.
 
-ghost use Rattle.std.specs.Prelude.{◌≡◌, ◌+◌, ◌*◌, ◌<◌, ◌≤◌, ◌==◌, length};
-ghost use Rattle.std.specs.List.{count_by};
+ghost use Rattle.std.specs.Prelude.{◌≡◌, ◌+◌, ◌*◌, ◌<◌, ◌≤◌};
 ghost use Rattle.pd_kinds.specs.Bitmap.{bitmaps_for};
 ghost use Rattle.pd_laid.specs.Map.{free_in as free_of};
 ghost use Rattle.pd_count.specs.Counted.{count_of};
@@ -20,16 +19,8 @@ pub(crate) fn free_in(counts: &Counts, i: u64) -> u32
     let covered = (counts.size() - i * CHUNK_COUNTS as u64).min(CHUNK_COUNTS as u64) as usize;
     match counts.chunk(i) {
         None => covered as u32,
-        Some(numbers) => zeros_in(&numbers[..covered]),
+        Some(chunk) => chunk.zeros(covered) as u32,
     }
-}
-
-/// How many of these counts are 0.
-fn zeros_in(numbers: &[u32]) -> u32
-    requires { length numbers.now ≤ 16320 }
-    ensures { result ≡ count_by (λ n. n == 0) numbers.now }
-{
-    numbers.iter().filter(|n| **n == 0).count() as u32
 }
 
 /// How many blocks have a count.

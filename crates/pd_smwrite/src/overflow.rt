@@ -1,6 +1,6 @@
 //! The tree of the counts that two bits don't hold.
 
-ghost use Rattle.std.specs.Prelude.{◌≡◌, ◌+◌, ◌*◌, ◌<◌, ◌≤◌, ℕ, IfOk, MatchOption, OnOk, length, slice_index};
+ghost use Rattle.std.specs.Prelude.{◌≡◌, ◌+◌, ◌*◌, ◌<◌, ◌≤◌, ℕ, IfOk, MatchOption, OnOk, length};
 ghost use Rattle.pd_image.specs.Device.{IsWritable};
 ghost use Rattle.pd_draft.specs.Closed.{IsClosed, StaysClosed};
 ghost use Rattle.pd_draft.specs.Placed.{Wrote};
@@ -94,23 +94,9 @@ fn high_in(counts: &Counts, i: u64, start: u64) -> Option<u64>
     let first = i * CHUNK_COUNTS as u64;
     match counts.chunk(i) {
         None => None,
-        Some(numbers) => match high_from(numbers, (start - first) as usize) {
+        Some(chunk) => match chunk.first((start - first) as usize, 3) {
             None => None,
             Some(at) => Some(first + at as u64),
         },
     }
-}
-
-/// The place of the first count of 3 or more, from a place on.
-fn high_from(numbers: &[u32], from: usize) -> Option<usize>
-    requires { from ≤ length numbers.now }
-    ensures { MatchOption result ((k : ℕ) → from ≤ k → k < length numbers.now → slice_index numbers.now k < 3)
-        (λ at. (from ≤ at) × ((at < length numbers.now) × ((3 ≤ slice_index numbers.now at) × ((k : ℕ) → from ≤ k → k < at → slice_index numbers.now k < 3)))) }
-{
-    for at in from..numbers.len() {
-        if numbers[at] >= 3 {
-            return Some(at);
-        }
-    }
-    None
 }

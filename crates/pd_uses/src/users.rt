@@ -7,7 +7,7 @@ use std::alloc::{AllocError, Global};
 use std::marker::Model;
 
 /// A number for each of so many data blocks, which tells who uses it. The numbers stand in chunks of 16320, and a chunk
-/// is made when a number in it is first put: 24 bytes a chunk, and 65280 more where it is made.
+/// is made when a number in it is first put: 32 bytes a chunk, and more where it is made, as `Chunk` tells.
 #[derive(Drop)]
 pub(crate) struct Users {
     size: u64,

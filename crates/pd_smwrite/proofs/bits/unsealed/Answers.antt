@@ -23,4 +23,4 @@ returns-in-None c =
 pub returns-in-Some : goal.returns-in-Some
 returns-in-Some c =
     let counts : ℕ → ℕ = λ e. count_of c.args.counts.now (16320 * c.args.i + e) in
-    c.filled_bitmap.ensures ∙ (stored_same (slice_index c.in-Some.numbers.now) counts c.in-Some.ensures.counted ∙ bitmap_is counts)
+    c.counted.ensures ∙ (stored_same (slice_index c.in-Some.chunk.now) counts c.in-Some.ensures.counted ∙ bitmap_is counts)

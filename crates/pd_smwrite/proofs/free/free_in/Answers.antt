@@ -8,5 +8,5 @@ returns-in-None-clause-free c =
 
 pub returns-in-Some-clause-free : goal.returns-in-Some-clause-free
 returns-in-Some-clause-free c =
-    c.zeros_in.ensures
-    ∙ free_some c.args.counts.now c.args.i c.min-covered.result c.in-Some.numbers.now (omega (arith, c.min-covered.ensures, c.size.ensures.size)) c.in-Some.ensures
+    c.zeros.ensures.zeros
+    ∙ free_some c.args.counts.now c.args.i c.min-covered.result c.in-Some.chunk.now (omega (arith, c.min-covered.ensures, c.size.ensures.size)) c.in-Some.ensures

@@ -4,11 +4,11 @@ use Rattle.pd_smwrite.proofs.overflow.high_in.Goals as goal
 pub returns-in-None : goal.returns-in-None
 returns-in-None c = none_low c.args.counts.now c.args.i c.args.start c.requires.low c.in-None.ensures
 
-pub returns-in-None-high_from : goal.returns-in-None-high_from
-returns-in-None-high_from c =
-    chunk_low c.args.counts.now c.args.i c.args.start c.requires.low c.in-Some.numbers.now c.in-Some.ensures c.in-None-high_from.ensures
+pub returns-in-None-first : goal.returns-in-None-first
+returns-in-None-first c =
+    chunk_low c.args.counts.now c.args.i c.args.start c.requires.low c.in-Some.chunk.now c.in-Some.ensures c.in-None-first.ensures
 
-pub returns-in-Some-high_from : goal.returns-in-Some-high_from
-returns-in-Some-high_from c =
-    chunk_high c.args.counts.now c.args.i c.args.start c.requires.low c.in-Some.numbers.now c.in-Some.ensures c.in-Some-high_from.at c.size-size.ensures.past
-    c.in-Some-high_from.ensures
+pub returns-in-Some-first : goal.returns-in-Some-first
+returns-in-Some-first c =
+    chunk_high c.args.counts.now c.args.i c.args.start c.requires.low c.in-Some.chunk.now c.in-Some.ensures c.in-Some-first.at c.size-size.ensures.past
+    c.in-Some-first.ensures

@@ -1,11 +1,11 @@
-use Rattle.std.proofs.Common.{◌∙◌, sym, arith}
+use Rattle.std.proofs.Common.{◌∙◌, sym}
 use Rattle.std.proofs.lemmas.Bool.{eqb-true}
 use Rattle.pd_smap.proofs.ChunkLemmas.{run_counts, run_uncounted}
 use Rattle.pd_smap.proofs.references.DataReferencesReferences.are_all.Goals as goal
 
 pub returns-in-Some : goal.returns-in-Some
 returns-in-Some c = λ all.
-    run_counts c.args.self.now.0.now c.args.first c.args.len c.args.count _ c.in-Some.numbers.now (omega arith) c.requires.chunk c.in-Some.ensures (c.all_are.ensures all)
+    run_counts c.args.self.now.0.now c.args.first c.args.len c.args.count c.in-Some.chunk.now c.requires.chunk c.in-Some.ensures (c.are_all.ensures all)
 
 pub returns-in-None : goal.returns-in-None
 returns-in-None c = λ zero k below.

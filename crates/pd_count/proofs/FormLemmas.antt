@@ -1,0 +1,125 @@
+-- The numbers that a chunk shows, by its form.
+use Rattle.std.proofs.Common.{◌≡◌, ℕ, ◌+◌, ◌<◌, ◌≤◌, Bool, true, not, eqb, List, [], ◌∷◌, Option, None, Some, MatchOption, Result, Ok, Err, OnOk, length, map, take, get_or, inl, inr, refl, sym, ◌∙◌, ap, subst, arith}
+use Rattle.std.specs.List.{count_by, range_with_len}
+use Rattle.std.proofs.lemmas.Bool.{cases_lt}
+use Rattle.std.proofs.lemmas.Bool.Decides.{nat_tests}
+use Rattle.std.proofs.lemmas.List.{get_or_past}
+use Rattle.std.proofs.lemmas.List.FromFn.{get_or-map-range_with_len, length-map-range_with_len, take-map-range_with_len, fill_by_all}
+use Rattle.pd_count.specs.declared.few.Entry.{Entry}
+use Rattle.pd_count.specs.declared.chunk.Form.{Form}
+use Rattle.pd_count.specs.declared.chunk.Form.TheVariants.{Few, Dense}
+use Rattle.pd_count.specs.Counted.{PutsAt}
+use Rattle.pd_count.specs.Forms.{Puts, digits_number, entered, few_numbers, form_numbers, numbers_by}
+
+pub size_by : (n : ℕ) (f : ℕ → ℕ) → length (numbers_by n f) ≡ n
+unfolding numbers_by
+size_by n f = length-map-range_with_len f 0 n
+
+-- a list of the numbers of n places, or of none where each is 0
+pub record Shows (n : ℕ) (numbers : List ℕ) (f : ℕ → ℕ) : Type 0 where
+  pub within : (k : ℕ) → k < n → get_or numbers k 0 ≡ f k
+  pub past : (k : ℕ) → n ≤ k → get_or numbers k 0 ≡ 0
+
+number_by : (n : ℕ) (f : ℕ → ℕ) (k : ℕ) → k < n → get_or (numbers_by n f) k 0 ≡ f k
+unfolding numbers_by
+number_by n f k below = get_or-map-range_with_len f 0 n k k 0 below (omega arith)
+
+pub shows_by : (n : ℕ) (f : ℕ → ℕ) → Shows n (numbers_by n f) f
+shows_by n f = record { within = number_by n f; past = λ k past. get_or_past (numbers_by n f) k 0 (omega (arith, size_by n f)) }
+
+pub few_shows : (l : List Entry) → Shows 16320 (few_numbers l) (entered l)
+few_shows [] = record { within = λ k below. refl; past = λ k past. refl }
+few_shows (e ∷ l) = shows_by 16320 (entered (e ∷ l))
+
+-- no form shows a number past the last place
+pub form_past : (form : Form) (k : ℕ) → 16320 ≤ k → get_or (form_numbers form) k 0 ≡ 0
+form_past (Few entries) k past = (few_shows entries.items).past k past
+form_past (Dense digits) k past = (shows_by 16320 (digits_number digits.items)).past k past
+
+-- what was put shows
+pub puts_shown : (at number n : ℕ) (old new : List ℕ) (f g : ℕ → ℕ) → n ≡ 16320 → at < n → Shows n old f → Shows n new g → Puts at number f g → PutsAt at number old new
+puts_shown at number n old new f g all inside before after puts = record {
+  put = after.within at inside ∙ puts.put;
+  others = λ k other. elim (cases_lt k n) [
+    | inl below ↦ after.within k below ∙ (puts.others k other (omega arith) ∙ sym (before.within k below))
+    | inr past ↦ after.past k past ∙ sym (before.past k past)
+  ];
+}
+
+pub few_size : (l : List Entry) → 0 < length l → length (few_numbers l) ≡ 16320
+few_size [] some = absurd (omega arith)
+few_size (e ∷ l) some = size_by 16320 (entered (e ∷ l))
+
+-- a list that isn't empty, by the test
+pub some_there : (n : ℕ) (empty : Bool) → empty ≡ eqb n 0 → not empty ≡ true → 0 < n
+some_there n empty is some = grind (arith, nat_tests)
+
+-- a chunk of entries, and one of digits, as they were read
+pub shown_few : (numbers : List ℕ) (items read : List Entry) → numbers ≡ few_numbers items → read ≡ items → Shows 16320 numbers (entered read)
+shown_few numbers items read is same = rw (is, same) (few_shows items)
+
+pub shown_dense : (numbers items read : List ℕ) → numbers ≡ numbers_by 16320 (digits_number items) → read ≡ items → Shows 16320 numbers (digits_number read)
+shown_dense numbers items read is same = rw (is, same) (shows_by 16320 (digits_number items))
+
+-- the numbers of all places are told by each of them
+same_numbers : (n : ℕ) (f : ℕ → ℕ) (xs : List ℕ) → length xs ≡ n → ((k : ℕ) → k < n → get_or xs k 0 ≡ f k) → xs ≡ numbers_by n f
+unfolding numbers_by
+same_numbers n f xs size each = fill_by_all f xs n 0 size each
+
+pub shows_all : (n : ℕ) (f : ℕ → ℕ) (xs : List ℕ) → length xs ≡ n → Shows n xs f → xs ≡ numbers_by n f
+shows_all n f xs size shows = same_numbers n f xs size shows.within
+
+-- what was copied is all
+pub copied : (n : ℕ) (f : ℕ → ℕ) (xs ys : List ℕ) → length xs ≡ n → Shows n xs f → length ys ≡ n → ((k : ℕ) → k < n → get_or ys k 0 ≡ f k) → ys ≡ xs
+copied n f xs ys size shows same each = same_numbers n f ys same each ∙ sym (shows_all n f xs size shows)
+
+-- other digits of the same numbers
+pub spread_same : (n : ℕ) (f g : ℕ → ℕ) (xs : List ℕ) → length xs ≡ n → Shows n xs f → ((k : ℕ) → k < n → g k ≡ f k) → numbers_by n g ≡ xs
+spread_same n f g xs size shows each = sym (same_numbers n g xs size (λ k below. shows.within k below ∙ sym (each k below)))
+
+-- the first place that has enough
+pub first_shown : (r : Option ℕ) (from least n : ℕ) (xs : List ℕ) (f : ℕ → ℕ) → n ≡ 16320 → Shows n xs f → 0 < least
+    → MatchOption r ((k : ℕ) → from ≤ k → k < 16320 → f k < least)
+    (λ at. (from ≤ at) × ((at < 16320) × ((least ≤ f at) × ((k : ℕ) → from ≤ k → k < at → f k < least))))
+    → MatchOption r ((k : ℕ) → from ≤ k → get_or xs k 0 < least)
+    (λ at. (from ≤ at) × ((at < 16320) × ((least ≤ get_or xs at 0) × ((k : ℕ) → from ≤ k → k < at → get_or xs k 0 < least))))
+first_shown None from least n xs f all shows some none = λ k behind. elim (cases_lt k n) [
+  | inl below ↦ let is = shows.within k below in let less = none k behind (omega arith) in omega arith
+  | inr past ↦ let is = shows.past k past in omega arith
+]
+first_shown (Some at) from least n xs f all shows some found =
+    let behind = found.0 in
+    let below = found.1.0 in
+    let enough = found.1.1.0 in
+    let is = shows.within at (omega arith) in (
+      behind,
+      (
+        below,
+        (
+          omega arith,
+          λ k from less. let same = shows.within k (omega arith) in let low = found.1.1.1 k from less in omega arith,
+        ),
+      ),
+    )
+
+-- the zeros among the first numbers
+first_numbers : (n covered : ℕ) (f : ℕ → ℕ) → covered ≤ n → take covered (numbers_by n f) ≡ map f (range_with_len 0 covered)
+unfolding numbers_by
+first_numbers n covered f within = take-map-range_with_len f 0 n covered within
+
+pub zeros_shown : (n covered : ℕ) (f : ℕ → ℕ) (xs : List ℕ) → covered ≤ n → length xs ≡ n → Shows n xs f
+    → count_by (λ n. eqb n 0) (map f (range_with_len 0 covered)) ≡ count_by (λ n. eqb n 0) (take covered xs)
+zeros_shown n covered f xs within size shows =
+    ap (count_by (λ n. eqb n 0)) (sym (ap (take covered) (shows_all n f xs size shows) ∙ first_numbers n covered f within))
+
+-- what a call put shows, where it is Ok
+pub puts_on_ok : {T E : Type 0} (r : Result T E) (at number : ℕ) (old new : List ℕ) (f g : ℕ → ℕ) → at < 16320 → Shows 16320 old f → Shows 16320 new g
+    → OnOk r (Puts at number f g) → OnOk r (PutsAt at number old new)
+puts_on_ok (Ok t) at number old new f g below before after puts = puts_shown at number 16320 old new f g refl below before after puts
+puts_on_ok (Err e) at number old new f g below before after puts = tt
+
+-- one more shows
+pub raised_shown : (at : ℕ) (old new : List ℕ) (f g : ℕ → ℕ) → at < 16320 → Shows 16320 old f → Shows 16320 new g → Puts at (f at + 1) f g
+    → PutsAt at (get_or old at 0 + 1) old new
+raised_shown at old new f g below before after puts =
+    subst (λ (n : ℕ). PutsAt at (n + 1) old new) (sym (before.within at below)) (puts_shown at (f at + 1) 16320 old new f g refl below before after puts)

@@ -1,0 +1,14 @@
+use Rattle.std.proofs.Common.{◌∙◌, sym, ap, subst, List, ℕ, get_or, length}
+use Rattle.std.proofs.lemmas.List.{with_items_is}
+use Rattle.pd_count.specs.Forms.{Puts, digits_number}
+use Rattle.pd_count.proofs.DigitLemmas.{puts_same}
+use Rattle.pd_count.proofs.dense.put.Goals as goal
+
+pub returns-clause-put : goal.returns-clause-put
+returns-clause-put c =
+    let room = c.make_room.new.digits in
+    let read = c.deref_mut.ensures.value in
+    let whole = with_items_is room c.write.new.digits (c.write.ensures.size ∙ (ap (length {A = ℕ}) read ∙ sym room.ok.0)) in
+    subst (λ (d : List ℕ). Puts c.args.at c.args.number (digits_number c.args.digits.now.items) (digits_number d)) (sym whole)
+    (puts_same c.args.digits.now.items c.deref_mut.result.now c.args.at c.args.number (digits_number c.write.new.digits)
+    (λ k. ap (λ (xs : List ℕ). get_or xs k 0) read ∙ c.make_room.ensures.same k) c.write.ensures.put)

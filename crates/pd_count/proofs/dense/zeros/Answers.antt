@@ -1,0 +1,7 @@
+use Rattle.pd_count.specs.Forms.{digits_number}
+use Rattle.pd_count.proofs.DigitLemmas.{zeros_more}
+use Rattle.pd_count.proofs.dense.zeros.Goals as goal
+
+pub loop-at-preserved : goal.loop-at-preserved
+loop-at-preserved c =
+    zeros_more (digits_number c.args.digits.now) c.loop-at.at c.loop-at.zeros c.number.result c.from-zeros.result c.number.ensures c.from-zeros.ensures c.loop-at.invariant
