@@ -67,12 +67,14 @@ impl DeviceLines {
                 return Some(map_line(&run));
             }
             match self.pieces.next(saved.pieces()) {
-                Some(SavedPiece::Own(runs)) => self.runs.left = runs as usize,
-                Some(SavedPiece::Shared(number)) => {
-                    return Some(ThinLine::UseLeaf {
-                        number: number as u64,
-                    });
-                }
+                Some(piece) => match piece.piece() {
+                    SavedPiece::Own(runs) => self.runs.left = runs as usize,
+                    SavedPiece::Shared(number) => {
+                        return Some(ThinLine::UseLeaf {
+                            number: number as u64,
+                        });
+                    }
+                },
                 None => return self.next_device(saved),
             }
         }

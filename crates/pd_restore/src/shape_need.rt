@@ -15,7 +15,7 @@ ghost use Rattle.pd_restore.specs.ShapeNeed.{AddsDevice, AddsPiece, IsUseBelow, 
 use crate::overflowing::Thrice;
 use crate::span::RunSpan;
 use pd_runs::{PackedRuns, RunPlace};
-use pd_salvage::{SavedPiece, SavedShape, ShapedDevice};
+use pd_salvage::{PackedPiece, SavedPiece, SavedShape, ShapedDevice};
 use pd_shared_devices::{NeedCounts, leaves_for, need_of, tree_ended};
 use std::alloc::{AllocError, Global};
 
@@ -71,7 +71,7 @@ fn over_of(
 }
 
 /// How many of so many leaves these pieces use three times or more.
-fn often_of(alloc: Global, leaves: u64, pieces: &[SavedPiece]) -> Result<u64, AllocError>
+fn often_of(alloc: Global, leaves: u64, pieces: &[PackedPiece]) -> Result<u64, AllocError>
     requires { AllByRecursion (IsUseBelow leaves) pieces.now }
     ensures { IfOk result (λ often. often ≡ overflows_in (flat_map uses_of_saved pieces.now) leaves) }
 {
@@ -83,7 +83,7 @@ fn often_of(alloc: Global, leaves: u64, pieces: &[SavedPiece]) -> Result<u64, Al
 pub(crate) fn uses_of(
     alloc: Global,
     leaves: u64,
-    pieces: &[SavedPiece],
+    pieces: &[PackedPiece],
 ) -> Result<Thrice, AllocError>
     requires { AllByRecursion (IsUseBelow leaves) pieces.now }
     ensures size { IfOk result (λ counted. counted.counts.size ≡ leaves) }
@@ -97,15 +97,15 @@ pub(crate) fn uses_of(
 }
 
 /// Counts the leaf that a piece uses once more, where it uses one.
-fn count_use(counted: &mut Thrice, piece: &SavedPiece) -> Result<(), AllocError>
+fn count_use(counted: &mut Thrice, piece: &PackedPiece) -> Result<(), AllocError>
     requires { IsUseBelow counted.old.counts.size piece.now }
     ensures size { OnOk result (counted.new.counts.size ≡ counted.old.counts.size) }
     ensures listed { (before : List ℕ) → HasCountedThrice counted.old.counts before
         → OnOk result (HasCountedThrice counted.new.counts (before ++ uses_of_saved piece.now)) }
 {
-    match piece {
+    match piece.piece() {
         SavedPiece::Own(_) => Ok(()),
-        SavedPiece::Shared(number) => counted.add(*number as u64),
+        SavedPiece::Shared(number) => counted.add(number as u64),
     }
 }
 
@@ -119,7 +119,7 @@ struct TreeCounts {
 }
 
 /// How many blocks the trees of these devices have besides the shared leaves, where that fits.
-fn trees_of(devices: &[ShapedDevice], pieces: &[SavedPiece], runs: &PackedRuns) -> Option<u64>
+fn trees_of(devices: &[ShapedDevice], pieces: &[PackedPiece], runs: &PackedRuns) -> Option<u64>
     ensures { IfSome result (λ trees. trees ≡ trees_of_parts (device_parts devices.now pieces.now runs.now)) }
 {
     let mut counts = TreeCounts {
@@ -140,7 +140,7 @@ fn trees_of(devices: &[ShapedDevice], pieces: &[SavedPiece], runs: &PackedRuns) 
 fn with_device(
     counts: TreeCounts,
     device: &ShapedDevice,
-    pieces: &[SavedPiece],
+    pieces: &[PackedPiece],
     runs: &PackedRuns,
 ) -> Option<TreeCounts>
     ensures { IfSome result (AddsDevice counts device.now pieces.now runs.now) }
@@ -171,7 +171,7 @@ struct LeafCounts {
 }
 
 /// The leaves of these pieces, whose runs come at this place, where they fit.
-fn leaves_of(pieces: &[SavedPiece], runs: &PackedRuns, place: RunPlace) -> Option<LeafCounts>
+fn leaves_of(pieces: &[PackedPiece], runs: &PackedRuns, place: RunPlace) -> Option<LeafCounts>
     ensures { IfSome result (CountsPieces pieces.now runs.now (runs_from runs.now place)) }
 {
     let mut counts = LeafCounts {
@@ -189,13 +189,13 @@ fn leaves_of(pieces: &[SavedPiece], runs: &PackedRuns, place: RunPlace) -> Optio
 }
 
 /// The same with a piece more, whose runs come next.
-fn with_piece(counts: LeafCounts, piece: &SavedPiece, runs: &PackedRuns) -> Option<LeafCounts>
+fn with_piece(counts: LeafCounts, piece: &PackedPiece, runs: &PackedRuns) -> Option<LeafCounts>
     ensures { IfSome result (AddsPiece counts piece.now runs.now) }
 {
-    match piece {
+    match piece.piece() {
         SavedPiece::Own(number) => {
             let mut place = counts.place;
-            let mappings = mappings_of(runs, &mut place, *number as usize)?;
+            let mappings = mappings_of(runs, &mut place, number as usize)?;
             Some(LeafCounts {
                 own: counts.own.checked_add(leaves_for(mappings))?,
                 uses: counts.uses,

@@ -16,8 +16,8 @@ impl Span {
     ghost use Rattle.pd_restore.specs.Spans.{in_span, behind};
 
     /// The next element, or none where there is none more. What stands behind the row stays.
-    pub(crate) fn next<T: Copy>(&mut self, items: &[T]) -> Option<T>
-        ensures some { IfSome result (λ item. in_span self.old items.now ≡ item ∷ in_span self.new items.now) }
+    pub(crate) fn next<'a, T>(&mut self, items: &'a [T]) -> Option<&'a T>
+        ensures some { IfSome result (λ item. in_span self.old items.now ≡ item.now ∷ in_span self.new items.now) }
         ensures at { IfSome result (λ item. self.new.at ≡ self.old.at + 1) }
         ensures fewer { IfSome result (λ item. self.new.left < self.old.left) }
         ensures none { IfNone result (in_span self.old items.now ≡ []) }
@@ -31,7 +31,7 @@ impl Span {
             Some(item) => {
                 self.at += 1;
                 self.left -= 1;
-                Some(*item)
+                Some(item)
             }
             None => {
                 self.left = 0;

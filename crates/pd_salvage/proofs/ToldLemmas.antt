@@ -110,13 +110,6 @@ module _ {X : Type 0} (size : ℕ) (decoded : ℕ → X) (nr : ℕ) (image : Lis
       (told_sound (64 - old.stack.depth) (63 - old.stack.depth) b range (last_place new.stack).block.0 (omega arith) read inside sound)
 
   -- a step
-  pub saved_same : (old new : Way) → Passes size old new → saved_on size decoded nr image old ≡ saved_on size decoded nr image new
-  saved_same old new passes = ap (flat_map (told one saved)) passes.left
-
-  pub saved_child : (b : ℕ) (range : Range) (old new : Way) → GoesDown size b range old new
-      → saved_on size decoded nr image old ≡ saved_below size decoded nr image (64 - new.stack.depth) range b ++ saved_on size decoded nr image new
-  saved_child b range old new down = ap (flat_map (told one saved)) down.left
-
   pub saved_entry : (fitting : X → Bool) (key : ℕ) (value : X) (old new : Way) → GivesEntry size decoded fitting key value old new
       → saved_on size decoded nr image old ≡ (key, value) ∷ saved_on size decoded nr image new
   saved_entry fitting key value old new gives = rw gives.is (ap (flat_map (told one saved)) gives.left)

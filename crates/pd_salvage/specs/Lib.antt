@@ -5,6 +5,7 @@ pub mod Ascending
 pub mod Cursor
 pub mod Saved
 pub mod SavedShape
+pub mod PackedPiece
 pub mod Faults
 pub mod Details
 pub mod Gather

@@ -23,7 +23,6 @@ pub fn salvage<D: Device>(
     s: &ThinSuper,
 ) -> Result<Salvage, SalvageFault>
     requires attached { IsAttached (D.state dev.old) }
-    requires some { 1 ≤ s.now.meta_map.blocks }
     requires within { s.now.meta_map.blocks ≤ (D.state dev.old).blocks }
     requires few { s.now.meta_map.blocks ≤ 4161600 }
     requires data { s.now.data_map.blocks ≤ 2 ^ 40 }

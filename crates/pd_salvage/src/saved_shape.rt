@@ -2,6 +2,7 @@
 
 ghost use Rattle.std.specs.Prelude.{◌≡◌};
 
+use crate::packed_piece::PackedPiece;
 use crate::saved::SavedHead;
 use pd_runs::PackedRuns;
 use pd_value::Details;
@@ -36,7 +37,7 @@ pub struct ShapedDevice {
     pub pieces: usize,
 }
 
-/// A pool that is held in memory with its shared leaves: 16 bytes a leaf, 8 a piece, 48 a device, and for a run some 4 and
+/// A pool that is held in memory with its shared leaves: 16 bytes a leaf, 4 a piece, 48 a device, and for a run some 4 and
 /// at most 35. A shared leaf's runs stand in it once. Each of its two lists of runs may have room for 64 KiB more.
 ///
 /// It is a shape whose meaning is a lawful pool.
@@ -46,7 +47,7 @@ pub struct SavedShape {
     leaves: Vec<SavedLeaf>,
     leaf_runs: PackedRuns,
     devices: Vec<ShapedDevice>,
-    pieces: Vec<SavedPiece>,
+    pieces: Vec<PackedPiece>,
     runs: PackedRuns,
 }
 
@@ -84,7 +85,7 @@ impl SavedShape {
         leaves: Vec<SavedLeaf>,
         leaf_runs: PackedRuns,
         devices: Vec<ShapedDevice>,
-        pieces: Vec<SavedPiece>,
+        pieces: Vec<PackedPiece>,
         runs: PackedRuns,
     ) -> SavedShape
         requires { IsSavedShape (held head leaves.items leaf_runs devices.items pieces.items runs) }
@@ -131,7 +132,7 @@ impl SavedShape {
     }
 
     /// The pieces of all devices, by ascending virtual block, those of the first device first.
-    pub fn pieces(&self) -> &[SavedPiece]
+    pub fn pieces(&self) -> &[PackedPiece]
         ensures { result.now ≡ self.now.pieces }
     {
         &self.pieces

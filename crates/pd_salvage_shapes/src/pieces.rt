@@ -5,13 +5,13 @@ ghost use Rattle.pd_salvage_shapes.specs.Pieces.{AreNumbers, above, number_of_le
 
 use crate::note::Note;
 use pd_runs::PackedRuns;
-use pd_salvage::{Joining, SavedPiece};
+use pd_salvage::{Joining, PackedPiece, SavedPiece, add_piece};
 use std::alloc::{AllocError, Global};
 
 /// The pieces and the runs that were made, and the piece of a device's own that was begun.
 #[derive(Drop)]
 pub(crate) struct Piecing {
-    pub(crate) pieces: Vec<SavedPiece>,
+    pub(crate) pieces: Vec<PackedPiece>,
     pub(crate) runs: PackedRuns,
     joining: Joining,
     /// How many runs there were when the piece was begun.
@@ -68,7 +68,7 @@ impl Piecing {
         };
         self.first = all;
         if count > 0 {
-            self.pieces.push(SavedPiece::Own(count))?;
+            add_piece(&mut self.pieces, SavedPiece::Own(count))?;
         }
         Ok(())
     }
@@ -83,7 +83,7 @@ impl Piecing {
             return Ok(());
         }
         self.end_own()?;
-        self.pieces.push(SavedPiece::Shared(number - 1))?;
+        add_piece(&mut self.pieces, SavedPiece::Shared(number - 1))?;
         Ok(())
     }
 

@@ -25,7 +25,7 @@ use std::alloc::{AllocError, Global};
 ///
 /// An inner node is read once for each device and range of keys that isn't empty. A leaf is read once, and once more for
 /// each range that cuts it. While this works, the runs of each are held once, and of each device 4 bytes for each leaf that
-/// it met, until its pieces are made. Room for the pieces is taken at once: 8 bytes for each leaf that a device met.
+/// it met, until its pieces are made. Room for the pieces is taken at once: 4 bytes for each leaf that a device met.
 ///
 /// Fails with `Device` where a read failed, and with `Memory` where memory wasn't found.
 pub fn salvage_shape<D: Device>(
@@ -34,7 +34,6 @@ pub fn salvage_shape<D: Device>(
     s: &ThinSuper,
 ) -> Result<SavedShape, SalvageFault>
     requires attached { IsAttached (D.state dev.old) }
-    requires some { 1 ≤ s.now.meta_map.blocks }
     requires within { s.now.meta_map.blocks ≤ (D.state dev.old).blocks }
     requires few { s.now.meta_map.blocks ≤ 4161600 }
     requires data { s.now.data_map.blocks ≤ 2 ^ 40 }

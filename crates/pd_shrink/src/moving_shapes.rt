@@ -14,7 +14,7 @@ use crate::moves::MovedBlock;
 use crate::moving::{head_to, move_runs};
 use pd_changed::{moved_shapes_are_lawful, moved_shapes_mean_moved_pools};
 use pd_runs::{PackedRuns, RunPlace};
-use pd_salvage::{SavedLeaf, SavedPiece, SavedShape};
+use pd_salvage::{PackedPiece, SavedLeaf, SavedPiece, SavedShape, add_piece};
 use std::alloc::{AllocError, Global};
 
 /// Shared leaves and the runs of all of them, whose data blocks were moved.
@@ -27,14 +27,14 @@ struct MovedLeaves {
 /// Pieces and the runs of all own ones, whose data blocks were moved.
 #[derive(Drop)]
 struct MovedPieces {
-    pieces: Vec<SavedPiece>,
+    pieces: Vec<PackedPiece>,
     runs: PackedRuns,
 }
 
 /// The pool with its data blocks moved: so many data blocks, and each leaf and each piece of a device's own names its
 /// blocks' new places. Its runs are as long as can be within a leaf or a piece.
 ///
-/// It takes 16 bytes a leaf, 8 a piece, 48 a device, and for a run some 4 and at most 35. A piece that would have 2^32 runs or
+/// It takes 16 bytes a leaf, 4 a piece, 48 a device, and for a run some 4 and at most 35. A piece that would have 2^31 runs or
 /// more counts as want of memory.
 pub fn move_shape(
     alloc: Global,
@@ -110,7 +110,7 @@ fn move_leaf(
 /// The pieces and the runs of the own ones, whose data blocks are moved.
 fn move_pieces(
     alloc: Global,
-    pieces: &[SavedPiece],
+    pieces: &[PackedPiece],
     runs: &PackedRuns,
     end: u64,
     moves: &[MovedBlock],
@@ -134,7 +134,7 @@ fn move_pieces(
 /// Adds a piece with its runs, whose data blocks are moved: those from the place on, which goes on behind them. A use of a
 /// shared leaf has none, and stays.
 fn move_piece(
-    piece: &SavedPiece,
+    piece: &PackedPiece,
     all: &PackedRuns,
     place: &mut RunPlace,
     end: u64,
@@ -146,10 +146,10 @@ fn move_piece(
     ensures moved { OnOk result (AddsPiece (moves_in moves.now) piece.now (take (runs_of_piece piece.now) (runs_from all.now place.old)) moved.old moved.new) }
     ensures behind { OnOk result (runs_from all.now place.new ≡ drop (runs_of_piece piece.now) (runs_from all.now place.old)) }
 {
-    match piece {
-        SavedPiece::Own(number) => move_own(all, place, *number as usize, end, moves, moved),
+    match piece.piece() {
+        SavedPiece::Own(number) => move_own(all, place, number as usize, end, moves, moved),
         SavedPiece::Shared(number) => {
-            moved.pieces.push(SavedPiece::Shared(*number))?;
+            add_piece(&mut moved.pieces, SavedPiece::Shared(number))?;
             Ok(())
         }
     }
@@ -175,6 +175,6 @@ fn move_own(
         Ok(runs) => runs,
         Err(_) => return Err(AllocError),
     };
-    moved.pieces.push(SavedPiece::Own(runs))?;
+    add_piece(&mut moved.pieces, SavedPiece::Own(runs))?;
     Ok(())
 }

@@ -8,7 +8,7 @@ loop-piece-init c = no_pieces c.args.runs.now (runs_from c.args.runs.now c.args.
 
 pub loop-piece-preserved : goal.loop-piece-preserved
 loop-piece-preserved c =
-    pieces_more c.args.pieces.now c.args.runs.now (runs_from c.args.runs.now c.args.place) c.loop-piece.piece-index _ c.loop-piece.counts c.in-Some.more c.loop-piece-test.true c.loop-piece.invariant c.in-Some.ensures
+    pieces_more c.args.pieces.now c.args.runs.now (runs_from c.args.runs.now c.args.place) c.loop-piece.piece-index _ c.loop-piece.counts c.in-Some.more c.loop-piece-test.true c.loop-piece.invariant (rw c.piece-item.is at c.in-Some.ensures)
 
 pub returns : goal.returns
 returns c = pieces_all c.args.pieces.now c.args.runs.now (runs_from c.args.runs.now c.args.place) c.loop-piece.piece-index c.loop-piece.counts c.loop-piece-test.false c.loop-piece.invariant

@@ -1,4 +1,4 @@
-use Rattle.std.proofs.Common.{◌+◌, ap, map, refl, take, ◌∙◌}
+use Rattle.std.proofs.Common.{◌+◌, ap, map, refl, sym, take, ◌∙◌}
 use Rattle.pd_spells.specs.Need.{nodes_for}
 use Rattle.pd_shapes.proofs.LeafRuns.{number_mapped}
 use Rattle.pd_runs.specs.Places.{runs_from}
@@ -13,7 +13,7 @@ returns-in_ok-checked_add-in-Own c =
     let runs = runs_from c.args.runs.now old.place in
     let k = c.in-Own.number in
     let new : LeafCounts = record { own = c.in_ok-checked_add-in-Own.field-0; uses = old.uses; place = c.mappings_of.new.place } in
-    rw c.in-Own.is
+    rw (sym c.piece.ensures ∙ c.in-Own.is)
     (own_piece old new k c.args.runs.now
     (c.in_ok-checked_add-in-Own.ensures.1 ∙ ap (λ n. old.own + n) (c.leaves_for.ensures ∙ ap (nodes_for 252) (c.in_ok-mappings-in-Own.ensures.mappings ∙ number_mapped (map spelled (take k runs)))))
     refl c.in_ok-mappings-in-Own.ensures.behind)
@@ -22,4 +22,4 @@ pub returns-in_ok-checked_add-in-Shared : goal.returns-in_ok-checked_add-in-Shar
 returns-in_ok-checked_add-in-Shared c =
     let old = c.args.counts in
     let new : LeafCounts = record { own = old.own; uses = c.in_ok-checked_add-in-Shared.field-0; place = old.place } in
-    rw c.in-Shared.is (used_piece old new c.in-Shared.field-0 c.args.runs.now refl c.in_ok-checked_add-in-Shared.ensures.1 refl)
+    rw (sym c.piece.ensures ∙ c.in-Shared.is) (used_piece old new c.in-Shared.field-0 c.args.runs.now refl c.in_ok-checked_add-in-Shared.ensures.1 refl)

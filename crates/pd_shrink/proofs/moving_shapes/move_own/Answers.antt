@@ -14,4 +14,4 @@ returns-clause-moved c = λ runs.
     let count = ap length has.runs_are ∙ length-append c.args.moved.now.runs has.given in
     let number : c.in-Ok.runs ≡ length has.given = omega (arith, c.in-Ok.ensures, c.len.ensures, c.len-first.ensures, count) in
     adds_part runs_of_piece leaf_of_piece (moves_in c.args.moves.now) (Own runs) (Own c.in-Ok.runs) (take c.args.number (runs_from c.args.all.now c.args.place.now))
-    c.args.moved.now.pieces.items c.push.new.self.items c.args.moved.now.runs c.move_runs.new.runs has number refl c.in_ok-push.ensures.items
+    c.args.moved.now.pieces.items c.add_piece.new.pieces.items c.args.moved.now.runs c.move_runs.new.runs has number refl c.in_ok-add_piece.ensures

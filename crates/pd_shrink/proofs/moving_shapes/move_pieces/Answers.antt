@@ -18,7 +18,7 @@ pub loop-piece-preserved : goal.loop-piece-preserved
 loop-piece-preserved c =
     parts_next runs_of_piece leaf_of_piece (moves_in c.args.moves.now) c.args.pieces.now c.args.runs.now c.loop-piece.piece-index _ (runs_from c.args.runs.now c.loop-piece.place) _ _
     c.loop-piece.moved.pieces.items c.move_piece.new.moved.pieces.items c.loop-piece.moved.runs c.move_piece.new.moved.runs c.loop-piece-test.true c.loop-piece.invariant
-    refl c.in_ok-move_piece.ensures.behind c.in_ok-move_piece.ensures.moved
+    refl (rw c.piece-item.is at c.in_ok-move_piece.ensures.behind) (rw c.piece-item.is at c.in_ok-move_piece.ensures.moved)
 
 pub returns : goal.returns
 returns c =

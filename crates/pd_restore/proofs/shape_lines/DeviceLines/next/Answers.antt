@@ -25,7 +25,7 @@ pub pieces-preserved : goal.pieces-preserved
 pieces-preserved c =
     let l = c.pieces.self in
     let h = c.args.saved.now in
-    let k = c.in-Some-Own.runs in
+    let k = c.in-Own.runs in
     let mid = c.next.new.self in
     let begun : RunSpan = record { at = mid.at; left = k } in
     let pieces = c.next-in-pieces.new.self in
@@ -34,20 +34,20 @@ pieces-preserved c =
     c.pieces.invariant
     ∙ own_first k (in_runs l.runs h.runs) (in_runs begun h.runs) (in_span l.pieces h.pieces) (in_span pieces h.pieces) (in_span l.devices h.devices) (behind l.pieces h.pieces) (behind pieces h.pieces)
     (behind_runs l.runs h.runs) (behind_runs begun h.runs) (rw c.runs.ensures at c.in_default.ensures.none)
-    ((rw c.pieces-in-pieces.ensures at c.in-Some-Own.ensures.some) ∙ ap (λ (p : SavedPiece). p ∷ in_span pieces h.pieces) c.in-Some-Own.field-0-is)
+    ((rw c.pieces-in-pieces.ensures at c.in-Some-next.ensures.some) ∙ ap (λ (p : SavedPiece). p ∷ in_span pieces h.pieces) (sym c.piece.ensures ∙ c.in-Own.is))
     (begun_in_runs mid begun h.runs ended refl ∙ ap (take k) same) (begun_behind_runs mid begun h.runs ended refl ∙ ap (drop k) same)
     (rw c.pieces-in-pieces.ensures at c.next-in-pieces.ensures.behind)
 
-pub returns-in-Some-Shared-clause-some : goal.returns-in-Some-Shared-clause-some
-returns-in-Some-Shared-clause-some c =
+pub returns-in-Shared-clause-some : goal.returns-in-Shared-clause-some
+returns-in-Shared-clause-some c =
     let l = c.pieces.self in
     let h = c.args.saved.now in
     let mid = c.next.new.self in
     let pieces = c.next-in-pieces.new.self in
     c.pieces.invariant
     ∙ use_first (in_runs l.runs h.runs) (in_runs mid h.runs) (in_span l.pieces h.pieces) (behind l.pieces h.pieces) (behind pieces h.pieces) (in_span l.devices h.devices) (behind_runs l.runs h.runs) (behind_runs mid h.runs)
-    (rw c.runs.ensures at c.next.ensures.behind) c.in-Some-Shared.number (in_span pieces h.pieces) (rw c.runs.ensures at c.in_default.ensures.none) (none_in_runs mid h.runs c.in_default.ensures.ended)
-    ((rw c.pieces-in-pieces.ensures at c.in-Some-Shared.ensures.some) ∙ ap (λ (p : SavedPiece). p ∷ in_span pieces h.pieces) c.in-Some-Shared.field-0-is)
+    (rw c.runs.ensures at c.next.ensures.behind) c.in-Shared.number (in_span pieces h.pieces) (rw c.runs.ensures at c.in_default.ensures.none) (none_in_runs mid h.runs c.in_default.ensures.ended)
+    ((rw c.pieces-in-pieces.ensures at c.in-Some-next.ensures.some) ∙ ap (λ (p : SavedPiece). p ∷ in_span pieces h.pieces) (sym c.piece.ensures ∙ c.in-Shared.is))
     (rw c.pieces-in-pieces.ensures at c.next-in-pieces.ensures.behind)
 
 pub returns-in-None-clause-some : goal.returns-in-None-clause-some

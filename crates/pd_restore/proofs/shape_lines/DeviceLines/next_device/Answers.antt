@@ -8,7 +8,7 @@ pub returns-in-Some-clause-some : goal.returns-in-Some-clause-some
 returns-in-Some-clause-some c =
     let old = c.args.self.now in
     let h = c.args.saved.now in
-    let d = c.in-Some.next in
+    let d = c.in-Some.next.now in
     let begun : Span = record { at = old.pieces.at; left = d.pieces } in
     device_first (in_runs old.runs h.runs) (in_span old.pieces h.pieces) (in_span old.devices h.devices) (behind old.pieces h.pieces) (behind_runs old.runs h.runs)
     d (in_span c.next.new.self h.devices) (in_span begun h.pieces) (behind begun h.pieces)

@@ -18,7 +18,7 @@ returns-in-Some-next-clause-some c =
     let old = c.args.self.now in
     let h = c.args.saved.now in
     let mid = c.next.new.self in
-    let leaf = c.in-Some-next.leaf in
+    let leaf = c.in-Some-next.leaf.now in
     let new : LeafLines = record { leaves = c.next-2.new.self; runs = record { at = mid.at; left = leaf.runs } } in
     let ended = c.in_default.ensures.ended in
     let same = rw c.leaf_runs.ensures at c.next.ensures.behind in

@@ -14,4 +14,4 @@ pub returns : goal.returns
 returns c = λ ones pieces runs done leaf number some is.
     let positive = c.if-number-eq0.false in
     takes_shared ones pieces runs c.args.self.now _ done is leaf (noted c.args.note.now) c.end_own.new.self (c.args.number - 1) (above_some (number_of_leaf ones leaf) c.args.number number (omega arith)) (some (omega arith))
-    (c.in_ok-end_own.ensures.ends _ is.mappings is.joining is.first) c.in_ok-push.ensures.items refl refl refl
+    (c.in_ok-end_own.ensures.ends _ is.mappings is.joining is.first) c.in_ok-add_piece.ensures refl refl refl
