@@ -69,8 +69,5 @@ fi
 
 sed -n 's/^| \[\([^]]*\)\](.*/crates\/\1/p' "$list" | sort >"$tmp/listed"
 grep -lF -- "$mark" $(find crates/*/specs -name '*.antt') | sort >"$tmp/marked" || true
-# These get the mark when their crates change for another reason: all that stands on them is proved again then.
-unmarked='crates/pd_laid/specs/SavedCache.antt crates/pd_laid/specs/Visits.antt crates/pd_shapes/specs/SavedShape.antt'
-printf '%s\n' $unmarked | cat - "$tmp/marked" | sort >"$tmp/known"
 diff "$tmp/all" "$tmp/listed"
-diff "$tmp/all" "$tmp/known"
+diff "$tmp/all" "$tmp/marked"

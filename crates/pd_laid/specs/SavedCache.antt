@@ -1,3 +1,4 @@
+-- Trusted base.
 -- What can be saved of a damaged cache: the words of its arrays that a path of sound nodes leads to from the roots of
 -- its superblock. What may be dirty is dirty.
 use Rattle.std.specs.Prelude.{ℕ, ◌/◌, ◌%◌, Bool, true, ◌==◌, ◌&&◌, ◌||◌, not, nat_lt, if◌then◌else◌, List, filter, Option, Some, None}

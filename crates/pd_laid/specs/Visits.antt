@@ -1,3 +1,4 @@
+-- Trusted base.
 -- The leaves that a salvage visits: those that paths of sound nodes lead to, each with the range of keys in which it is met.
 use Rattle.std.specs.Prelude.{ℕ, zero, suc, ◌^◌, ◌&&◌, ◌||◌, not, nat_lt, if◌then◌else◌, List, [], ◌∷◌, filter}
 use Rattle.std.specs.List.{flat_map, range_with_len}

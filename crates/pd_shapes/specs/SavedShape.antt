@@ -1,3 +1,4 @@
+-- Trusted base.
 -- The shape of what can be saved of a damaged pool: a leaf that is met whole twice or more is shared, and what is saved of the
 -- others is a device's own.
 use Rattle.std.specs.Prelude.{ℕ, ◌==◌, ◌&&◌, Bool, not, nat_lt, nat_le, if◌then◌else◌, List, [], ◌∷◌, length, map, filter, count_by, Option, None}
