@@ -50,7 +50,7 @@ abbrev pub repair_cache : Option ℕ → List ℕ → List ℕ → Terms
 repair_cache version from to = record {
   uses = record unnamed { out = reading []; input = reading from; output = writing to };
   Finding = Salvaged SavedIn;
-  finds = FindsSaved Cache (saved_in version);
+  finds = FindsSaved (faults Cache Super) (saved_in version);
   answer = kept_answer;
   statuses = 0 ∷ 1 ∷ 4 ∷ 5 ∷ 7 ∷ [];
   memory = λ before. IfSome before.input.held (λ image. faults Cache Super image ≡ []);

@@ -15,6 +15,9 @@ pub mod CachedView
 pub mod Restores
 pub mod Repairs
 pub mod Searches
+pub mod States
+pub mod NamedRoots
+pub mod NamedRepairs
 pub mod CacheRepairs
 pub mod Rehearsals
 pub mod Writebacks

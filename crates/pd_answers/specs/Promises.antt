@@ -21,6 +21,7 @@ use Rattle.pd_answers.specs.Terms.{Terms, unnamed, nothing}
 use Rattle.pd_answers.specs.Restores.{restore}
 use Rattle.pd_answers.specs.Repairs.{repair}
 use Rattle.pd_answers.specs.Searches.{search}
+use Rattle.pd_answers.specs.NamedRepairs.{repair_named, dry_search}
 use Rattle.pd_answers.specs.CacheRepairs.{repair_cache}
 use Rattle.pd_answers.specs.Rehearsals.{rehearse}
 use Rattle.pd_answers.specs.Writebacks.{writeback}
@@ -137,6 +138,8 @@ terms_of (Some (request.query asked file path)) = query asked file path
 terms_of (Some (request.restore kind version file path)) = restore kind version file path
 terms_of (Some (request.repair shared from to)) = repair shared from to
 terms_of (Some (request.search shared from to transaction block_size blocks)) = search shared from to transaction block_size blocks
+terms_of (Some (request.repair_named shared from to given named)) = repair_named shared from to given named
+terms_of (Some (request.dry_search path given named)) = dry_search path given named
 terms_of (Some (request.repair_cache version from to)) = repair_cache version from to
 terms_of (Some (request.generate number file)) = generate number file
 terms_of (Some (request.rehearse number path)) = rehearse number path

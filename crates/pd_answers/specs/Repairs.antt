@@ -1,7 +1,7 @@
 -- Trusted base.
 -- The terms of a repair of a pool, without the leaves that its devices share, or with them.
 use Rattle.std.specs.Prelude.{◌≡◌, ℕ, Bool, true, false, not, ◌==◌, if◌then◌else◌, List, [], ◌∷◌, IfSome}
-use Rattle.pd_kinds.specs.declared.kind.Kind.{Kind}
+use Rattle.pd_kinds.specs.declared.fault.Fault.{Fault}
 use Rattle.pd_kinds.specs.declared.kind.Kind.TheVariants.{Thin}
 use Rattle.pd_kinds.specs.declared.kind.Stage.TheVariants.{Super}
 use Rattle.pd_kinds.specs.Crash.{IsUntouched}
@@ -25,10 +25,10 @@ pub record Salvaged (S : Type 0) : Type 0 where
   pub saved : S
   pub room : ℕ
 
--- what it finds is right: the superblock's report, and what can be saved of an image of this kind
-abbrev pub FindsSaved : {S : Type 0} → Kind → (List (List ℕ) → S) → Objects → Objects → Salvaged S → Type 0
-FindsSaved kind saved_of before after found = IsRoom before.output after.output found.room
-    × IfSome before.input.held (λ image. (found.report ≡ report_of (faults kind Super image)) × (found.saved ≡ saved_of image))
+-- what it finds is right: the report of the faults that it looks at, and what can be saved of an image
+abbrev pub FindsSaved : {S : Type 0} → (List (List ℕ) → List Fault) → (List (List ℕ) → S) → Objects → Objects → Salvaged S → Type 0
+FindsSaved broken saved_of before after found = IsRoom before.output after.output found.room
+    × IfSome before.input.held (λ image. (found.report ≡ report_of (broken image)) × (found.saved ≡ saved_of image))
 
 -- a repair puts the report of a superblock that has faults to `notes`; else it answers as what is made, with this line
 abbrev pub saved_answer : {S : Type 0} → (S → Making) → (S → List ℕ) → Salvaged S → Answer
@@ -59,18 +59,22 @@ abbrev pub saved_of : (shared : Bool) → List (List ℕ) → Saved shared
 saved_of false = salvage
 saved_of true = saved_shape
 
--- a repair, with shared leaves or without, reads one image and writes another; memory isn't wanting where the superblock is told
--- and has a fault
-abbrev pub repair : Bool → List ℕ → List ℕ → Terms
-repair shared from to = record {
+-- a repair that looks at these faults, with shared leaves or without, reads one image and writes another; memory isn't wanting
+-- where these are told, and there are some
+abbrev pub repair_by : (List (List ℕ) → List Fault) → List ℕ → (shared : Bool) → (List (List ℕ) → Saved shared) → List ℕ → List ℕ → Terms
+repair_by broken statuses shared saved_of from to = record {
   uses = record unnamed { input = reading from; output = writing to };
   Finding = Salvaged (Saved shared);
-  finds = FindsSaved Thin (saved_of shared);
+  finds = FindsSaved broken saved_of;
   answer = repair_answer (saved_making shared);
-  statuses = 0 ∷ 1 ∷ 4 ∷ 5 ∷ 7 ∷ [];
-  memory = λ before. IfSome before.input.held (λ image. faults Thin Super image ≡ []);
+  statuses = statuses;
+  memory = λ before. IfSome before.input.held (λ image. broken image ≡ []);
   silent = [];
   spared = λ _. ⊥;
   reads = any_reads;
   leaves = λ found before after status. LeavesRepaired (saved_making shared) found status before.output after.output;
 }
+
+-- a repair looks at the faults of the superblock
+abbrev pub repair : Bool → List ℕ → List ℕ → Terms
+repair shared from to = repair_by (faults Thin Super) (0 ∷ 1 ∷ 4 ∷ 5 ∷ 7 ∷ []) shared (saved_of shared) from to

@@ -5,6 +5,7 @@ use Rattle.pd_kinds.specs.declared.kind.Flagged.{Flagged}
 use Rattle.pd_kinds.specs.declared.kind.Kind.{Kind}
 use Rattle.pd_kinds.specs.declared.kind.Passing.{Passing}
 use Rattle.pd_kinds.specs.declared.kind.Stage.{Stage}
+use Rattle.pd_answers.specs.NamedRoots.{GivenSuper, NamedRoots}
 use Rattle.pd_answers.specs.QueryLines.{Asked}
 
 -- a request, with the words that name its objects: images, texts, and the file of `out` where one is named
@@ -23,6 +24,10 @@ pub data Request : Type 0 where
   repair : Bool → List ℕ → List ℕ → Request
   -- the same without a superblock: its transaction, block size and number of data blocks are given
   search : Bool → List ℕ → List ℕ → ℕ → ℕ → ℕ → Request
+  -- the same, from roots that are named
+  repair_named : Bool → List ℕ → List ℕ → GivenSuper → NamedRoots → Request
+  -- what such a repair would keep of an image: from roots that are named, or else from those that are found
+  dry_search : List ℕ → GivenSuper → Option NamedRoots → Request
   -- what can be saved of a cache to another image, in this version of the metadata, or in its own
   repair_cache : Option ℕ → List ℕ → List ℕ → Request
   -- the text of the generator for a number

@@ -31,8 +31,6 @@ pub data Need : Type 0 where
   wanted : Value → Need
   -- once or not at all, with a value
   optional : Value → Need
-  -- the same, but with all words of its tool that are so, or with none of them
-  together : Value → Need
 
 -- a word that can be given, by its name
 pub record Word : Type 0 where
@@ -92,13 +90,23 @@ number_word = named (codes "--number") (wanted generated)
 
 -- the numbers of a superblock that is wanting
 abbrev pub transaction_word : Word
-transaction_word = named (codes "--transaction-id") (together (below (2 ^ 64)))
+transaction_word = named (codes "--transaction-id") (wanted (below (2 ^ 64)))
 
 abbrev pub block_size_word : Word
-block_size_word = named (codes "--data-block-size") (together (below (2 ^ 32)))
+block_size_word = named (codes "--data-block-size") (wanted (below (2 ^ 32)))
 
 abbrev pub data_blocks_word : Word
-data_blocks_word = named (codes "--nr-data-blocks") (together (below (2 ^ 40 + 1)))
+data_blocks_word = named (codes "--nr-data-blocks") (wanted (below (2 ^ 40 + 1)))
+
+abbrev pub superblock_words : List Word
+superblock_words = transaction_word ∷ block_size_word ∷ data_blocks_word ∷ []
+
+-- and its roots
+abbrev pub mapping_root_word : Word
+mapping_root_word = named (codes "--mapping-root") (wanted (below (2 ^ 64)))
+
+abbrev pub details_root_word : Word
+details_root_word = named (codes "--details-root") (wanted (below (2 ^ 64)))
 
 -- the devices of a cache
 abbrev pub metadata_word : Word
@@ -123,7 +131,11 @@ pub data Tool : Type 0 where
   dump_tool : Kind → Tool
   restore_tool : Kind → Tool
   repair_tool : Tool
+  search_tool : Tool
+  named_repair_tool : Tool
   dry_repair_tool : Tool
+  dry_search_tool : Tool
+  dry_named_tool : Tool
   cache_repair_tool : Tool
   rmap_tool : Tool
   device_list_tool : Tool
@@ -150,8 +162,12 @@ tools =
     ∷ record { name = codes "thin_restore"; tool = restore_tool Thin; words = text_word ∷ output_word ∷ [] }
     ∷ record { name = codes "cache_restore"; tool = restore_tool Cache; words = version_word ∷ text_word ∷ output_word ∷ [] }
     ∷ record { name = codes "era_restore"; tool = restore_tool Era; words = text_word ∷ output_word ∷ [] }
-    ∷ record { name = codes "thin_repair"; tool = repair_tool; words = shared_word ∷ input_word ∷ output_word ∷ transaction_word ∷ block_size_word ∷ data_blocks_word ∷ [] }
+    ∷ record { name = codes "thin_repair"; tool = repair_tool; words = shared_word ∷ input_word ∷ output_word ∷ [] }
+    ∷ record { name = codes "thin_repair"; tool = search_tool; words = shared_word ∷ input_word ∷ output_word ∷ superblock_words }
+    ∷ record { name = codes "thin_repair"; tool = named_repair_tool; words = shared_word ∷ input_word ∷ output_word ∷ mapping_root_word ∷ details_root_word ∷ superblock_words }
     ∷ record { name = codes "thin_repair"; tool = dry_repair_tool; words = dry_run_word ∷ shared_word ∷ input_word ∷ [] }
+    ∷ record { name = codes "thin_repair"; tool = dry_search_tool; words = dry_run_word ∷ shared_word ∷ input_word ∷ superblock_words }
+    ∷ record { name = codes "thin_repair"; tool = dry_named_tool; words = dry_run_word ∷ shared_word ∷ input_word ∷ mapping_root_word ∷ details_root_word ∷ superblock_words }
     ∷ record { name = codes "cache_repair"; tool = cache_repair_tool; words = version_word ∷ input_word ∷ output_word ∷ [] }
     ∷ record { name = codes "thin_rmap"; tool = rmap_tool; words = region_word ∷ file_word ∷ image_word ∷ [] }
     ∷ record { name = codes "thin_ls"; tool = device_list_tool; words = file_word ∷ image_word ∷ [] }

@@ -14,9 +14,10 @@ use Rattle.pd_kinds.specs.declared.kind.Passing.TheVariants.{Nothing, Leaks}
 use Rattle.pd_kinds.specs.declared.kind.Stage.{Stage}
 use Rattle.pd_kinds.specs.declared.kind.Stage.TheVariants.{Super, Walk, Order, Whole, Counts}
 use Rattle.pd_answers.specs.QueryLines as ask
-use Rattle.pd_answers.specs.Tools.{Need, Tool, ToolWords, Value, Word, check_tool, dump_tool, restore_tool, repair_tool, dry_repair_tool, cache_repair_tool, rmap_tool, device_list_tool, since_tool, generate_tool, rehearse_tool, writeback_tool, shrink_tool, tools, image_word, until_word, passing_word, clear_word, file_word, shared_word, region_word, since_word, text_word, input_word, output_word, dry_run_word, version_word, number_word, transaction_word, block_size_word, data_blocks_word, metadata_word, fast_word, origin_word, data_word, blocks_word}
+use Rattle.pd_answers.specs.Tools.{Need, Tool, ToolWords, Value, Word, check_tool, dump_tool, restore_tool, repair_tool, search_tool, named_repair_tool, dry_repair_tool, dry_search_tool, dry_named_tool, cache_repair_tool, rmap_tool, device_list_tool, since_tool, generate_tool, rehearse_tool, writeback_tool, shrink_tool, tools, image_word, until_word, passing_word, clear_word, file_word, shared_word, region_word, since_word, text_word, input_word, output_word, dry_run_word, version_word, number_word, transaction_word, block_size_word, data_blocks_word, mapping_root_word, details_root_word, metadata_word, fast_word, origin_word, data_word, blocks_word}
 use Rattle.pd_answers.specs.Tools as table
-use Rattle.pd_answers.specs.Requests.{Request, check, passing_check, check_and_clear, query, restore, repair, search, repair_cache, generate, rehearse, writeback, shrink}
+use Rattle.pd_answers.specs.NamedRoots.{GivenSuper, NamedRoots}
+use Rattle.pd_answers.specs.Requests.{Request, check, passing_check, check_and_clear, query, restore, repair, search, repair_named, dry_search, repair_cache, generate, rehearse, writeback, shrink}
 
 -- the next step needs the value of this one
 infixl 10 ◌>>=◌
@@ -34,7 +35,6 @@ is_flag_need table.flag = true
 is_flag_need table.mark = true
 is_flag_need (table.wanted value) = false
 is_flag_need (table.optional value) = false
-is_flag_need (table.together value) = false
 
 -- whether a word has this name
 abbrev pub is_named : List ℕ → Word → Bool
@@ -204,14 +204,12 @@ Told table.flag = Bool
 Told table.mark = Bool
 Told (table.wanted value) = Meant value
 Told (table.optional value) = Option (Meant value)
-Told (table.together value) = Option (Meant value)
 
 abbrev pub told_by : (need : Need) → Given → Option (Told need)
 told_by table.flag times = is_set times
 told_by table.mark times = is_marked times
 told_by (table.wanted value) times = single_value times >>= meant value
 told_by (table.optional value) times = at_most_one times >>= meant_if_any value
-told_by (table.together value) times = at_most_one times >>= meant_if_any value
 
 -- what the items say for it
 abbrev pub told : (word : Word) → List Item → Option (Told word.need)
@@ -244,11 +242,19 @@ dump_with Thin true file image = Some (query ask.shared_text file image)
 dump_with Cache true file image = None
 dump_with Era true file image = None
 
--- with all three numbers of the superblock that is wanting, or none
-abbrev pub repair_with : Bool → List ℕ → List ℕ → Option ℕ → Option ℕ → Option ℕ → Option Request
-repair_with shared input output None None None = Some (repair shared input output)
-repair_with shared input output (Some transaction) (Some block_size) (Some blocks) = Some (search shared input output transaction block_size blocks)
-repair_with shared input output _ _ _ = None
+-- what the items say of a superblock that is wanting, and of its roots
+unfoldable pub given_super : List Item → Option GivenSuper
+given_super items = do
+  transaction ← told transaction_word items
+  block_size ← told block_size_word items
+  blocks ← told data_blocks_word items
+  Some (record { transaction = transaction; block_size = block_size; blocks = blocks })
+
+unfoldable pub named_roots : List Item → Option NamedRoots
+named_roots items = do
+  top ← told mapping_root_word items
+  details ← told details_root_word items
+  Some (record { top = top; details = details })
 
 -- what the items ask of a tool
 unfoldable pub request_of : Tool → List Item → Option Request
@@ -272,15 +278,38 @@ request_of repair_tool items = do
   shared ← told shared_word items
   input ← told input_word items
   output ← told output_word items
-  transaction ← told transaction_word items
-  block_size ← told block_size_word items
-  blocks ← told data_blocks_word items
-  repair_with shared input output transaction block_size blocks
+  Some (repair shared input output)
+request_of search_tool items = do
+  shared ← told shared_word items
+  input ← told input_word items
+  output ← told output_word items
+  given ← given_super items
+  Some (search shared input output given.transaction given.block_size given.blocks)
+request_of named_repair_tool items = do
+  shared ← told shared_word items
+  input ← told input_word items
+  output ← told output_word items
+  given ← given_super items
+  named ← named_roots items
+  Some (repair_named shared input output given named)
 request_of dry_repair_tool items = do
   dry_run ← told dry_run_word items
   shared ← told shared_word items
   input ← told input_word items
   Some (query ask.kept None input)
+request_of dry_search_tool items = do
+  dry_run ← told dry_run_word items
+  shared ← told shared_word items
+  input ← told input_word items
+  given ← given_super items
+  Some (dry_search input given None)
+request_of dry_named_tool items = do
+  dry_run ← told dry_run_word items
+  shared ← told shared_word items
+  input ← told input_word items
+  given ← given_super items
+  named ← named_roots items
+  Some (dry_search input given (Some named))
 request_of cache_repair_tool items = do
   version ← told version_word items
   input ← told input_word items
