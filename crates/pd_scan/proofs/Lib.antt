@@ -16,3 +16,5 @@ pub mod PairLemmas
 pub mod FitLemmas
 pub mod RootLemmas
 pub mod NumberLemmas
+pub mod BestLemmas
+pub mod StateLemmas

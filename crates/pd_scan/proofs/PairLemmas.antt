@@ -60,6 +60,15 @@ best_of_fewer may fits pair A fewer best fit is = record {
   none_better = λ t d among e. is.none_better t d among (fewer t d e);
 }
 
+-- a pair of trees has the places of both
+pub pair_top : (trees : LostTrees) (top details : ℕ) → (pair_of_trees trees top details).top ≡ top
+unfolding pair_of_trees
+pair_top trees top details = refl
+
+pub pair_details : (trees : LostTrees) (top details : ℕ) → (pair_of_trees trees top details).details ≡ details
+unfolding pair_of_trees
+pair_details trees top details = refl
+
 -- a top before the next one
 pub one_top : (n t : ℕ) → t < n + 1 → (t < n) ⊎ (t ≡ n)
 one_top n t less = elim (cases_lt t n) [ inl before ↦ inl before | inr last ↦ inr (omega arith) ]

@@ -41,3 +41,8 @@ none_found image data_blocks none = λ top details.
 -- the trees have as many places as the first of them
 pub places_by : (nr : ℕ) (trees : LostTrees) → HavePlaces nr trees → HavePlaces (size_of trees.tops) trees
 places_by nr trees places = subst (λ (n : ℕ). HavePlaces n trees) (sym places.tops) places
+
+-- there are no blocks where the image has none
+pub no_blocks : (image : List (List ℕ)) (data_blocks : ℕ) → min (length image) MAX_META_BLOCKS ≡ 0 → (lost_graph image data_blocks).nr ≡ 0
+unfolding lost_graph graph_of
+no_blocks image data_blocks none = none

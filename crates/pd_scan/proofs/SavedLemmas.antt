@@ -1,6 +1,8 @@
 -- What a repair saves from roots that fit each other is what was found.
-use Rattle.std.proofs.Common.{◌≡◌, inl, inr, ℕ, ◌<◌, ◌≤◌, Bool, true, false, not, nat_eq, nat_lt, List, [], ◌∷◌, length, map, filter, Some, refl, ap, subst, ◌∙◌, arith}
+use Rattle.std.proofs.Common.{◌≡◌, inl, inr, ℕ, ◌%◌, ◌^◌, ◌<◌, ◌≤◌, Bool, true, false, not, nat_eq, nat_lt, List, [], ◌∷◌, length, map, filter, Option, Some, refl, ap, subst, ◌∙◌, arith}
 use Rattle.std.specs.List.{AllByRecursion, list_any, list_all}
+use Rattle.std.specs.Option.{option_map}
+use Rattle.std.specs.Prelude.{is_none}
 use Rattle.std.specs.Str.{bytes_eq}
 use Rattle.std.proofs.lemmas.Slice.Eq.{bytes_eq-Decides}
 use Rattle.std.proofs.lemmas.Bool.{cases_Bool, both_ways, and_parts, eqb-true, lt-ltb, ne_eqb, not-false, not_from_false, or_from}
@@ -9,7 +11,7 @@ use Rattle.pd_kinds.specs.Graph.{Graph, block_at, pair}
 use Rattle.pd_kinds.specs.Image.{HasBytes}
 use Rattle.pd_kinds.specs.Lawful.{IsLawful}
 use Rattle.pd_kinds.specs.Layout.{Layout, tree, graph_of, leaf_entries}
-use Rattle.pd_kinds.specs.Meaning.{ThinDevice, thin_device}
+use Rattle.pd_kinds.specs.Meaning.{ThinDevice, ThinPool, thin_device}
 use Rattle.pd_kinds.specs.Node.{Entry}
 use Rattle.pd_kinds.specs.Stages.{IsReached}
 use Rattle.pd_kinds.specs.ThinFormat.{thin_layout, mapped_block, mapped_time}
@@ -22,6 +24,8 @@ use Rattle.pd_laid.specs.FoundRoots.{FoundRoots, are_fitting, devices_below, fou
 use Rattle.pd_laid.specs.Salvage.{salvaged_entries, salvaged_mappings, salvaged_device, salvage_from}
 use Rattle.pd_laid.proofs.NodeFacts.{among_mapped, block_pair, given_root, leaf_named, under_all, within_at}
 use Rattle.pd_laid.proofs.SalvageLemmas.{top_tree, bottom_tree, details_tree}
+use Rattle.pd_answers.specs.KeptLines.{found_mapped}
+use Rattle.pd_answers.specs.NamedRoots.{lacks_details}
 use Rattle.pd_scan.specs.Roots.{lost_fields}
 use Rattle.pd_scan.proofs.NamedTrees.{IsNamed, IsPart, entries_named, ordered, part_is, roots_reached, with_roots}
 use Rattle.pd_scan.proofs.SameBelow.{map_same}
@@ -196,20 +200,27 @@ module _ (nr data_blocks transaction block_size : ℕ) (image : List (List ℕ))
       let right = rw has.found at counted in
       rw (given_all_details, mappings_given top.value root, has.found, right) refl
 
+  -- each device of the mapping tree has details
+  all_found : AllByRecursion (λ (top : Entry). HasValue (details_entries graph image roots.details) top.key) (top_entries graph image roots.top)
+  unfolding are_fitting
+  all_found =
+      let tops = top_entries graph image roots.top in
+      let details = details_entries graph image roots.details in
+      let lists = and_parts (bytes_eq (keys_of tops) (keys_of details)) _ (and_parts _ _ (and_parts _ _ fit).1).1 in
+      let same : keys_of tops ≡ keys_of details = (bytes_eq-Decides (keys_of tops) (keys_of details)).0 lists.0 in
+      all_from (λ (top : Entry). list_any (λ q. nat_eq q top.key) (keys_of tops) ≡ true) (λ (top : Entry). HasValue details top.key)
+      (λ top among. has_value details top.key (rw same at among)) tops (among_mapped (λ (e : Entry). e.key) tops)
+
   pub found_is_saved : salvage_from fields image ≡ found_pool graph image transaction block_size roots
   unfolding are_fitting devices_below salvage_from found_pool graph_of
   found_is_saved =
       let tops = top_entries graph image roots.top in
       let details = details_entries graph image roots.details in
       let lists = and_parts (bytes_eq (keys_of tops) (keys_of details)) _ (and_parts _ _ (and_parts _ _ fit).1).1 in
-      let same : keys_of tops ≡ keys_of details = (bytes_eq-Decides (keys_of tops) (keys_of details)).0 lists.0 in
-      let found : AllByRecursion (λ (top : Entry). HasValue details top.key) tops =
-      all_from (λ (top : Entry). list_any (λ q. nat_eq q top.key) (keys_of tops) ≡ true) (λ (top : Entry). HasValue details top.key)
-      (λ top among. has_value details top.key (rw same at among)) tops (among_mapped (λ (e : Entry). e.key) tops) in
       let counted = all_counted (thin_device graph image details) tops lists.1 in
       let each = all_from_two (λ (top : Entry). HasValue details top.key) (λ (top : Entry). IsCounted (thin_device graph image details top))
       (λ (top : Entry). IsRoot 3 top.value → salvaged_device fields image top ≡ thin_device graph image details top)
-      (λ top has right root. device_given top root has right) tops found counted in
+      (λ top has right root. device_given top root has right) tops all_found counted in
       let inside = all_from (λ (top : Entry). IsRoot 3 top.value) (λ (top : Entry). not (is_outside nr top.value) ≡ true)
       (λ top root. not_from_false (is_outside nr top.value) root.0) tops tops_are_roots in
       rw (given_tops, filter_all (λ (top : Entry). not (is_outside nr top.value)) tops inside)
@@ -217,3 +228,17 @@ module _ (nr data_blocks transaction block_size : ℕ) (image : List (List ℕ))
       (all_from_two (λ (top : Entry). IsRoot 3 top.value) (λ (top : Entry). IsRoot 3 top.value → salvaged_device fields image top ≡ thin_device graph image details top)
       (λ (top : Entry). salvaged_device fields image top ≡ thin_device graph image details top) (λ top root follows. follows root)
       tops tops_are_roots each)) refl
+
+  -- so none lacks them
+  pub none_lacks : lacks_details fields image ≡ false
+  unfolding found_pool devices_below thin_device
+  none_lacks = ap (λ (m : ThinPool). list_any (λ (d : ThinDevice). is_none (found_mapped fields image d.id)) m.devices) found_is_saved ∙ by (top_entries graph image roots.top) all_found
+    where
+      by : (tops : List Entry) → AllByRecursion (λ (top : Entry). HasValue (details_entries graph image roots.details) top.key) tops
+          → list_any (λ (d : ThinDevice). is_none (found_mapped fields image d.id)) (map (thin_device graph image (details_entries graph image roots.details)) tops) ≡ false
+      by [] found = refl
+      by (top ∷ tops) found =
+          let mapped : found_mapped fields image top.key ≡ Some (found.0.value % 2 ^ 64) =
+          ap (λ (entries : List Entry). option_map (λ details. details % 2 ^ 64) (value_of_key entries top.key)) given_all_details
+          ∙ ap (λ (o : Option ℕ). option_map (λ details. details % 2 ^ 64) o) found.0.found in
+          rw mapped (by tops found.1)

@@ -22,7 +22,7 @@ use Rattle.pd_scan.specs.Fit.{is_fit_root}
 use Rattle.pd_scan.specs.Lost.{AreSettledTrees}
 use Rattle.pd_scan.specs.Tables.{AreAllMeasured, trees_of}
 use Rattle.pd_scan.specs.Trees.{AreLostTrees}
-use Rattle.pd_scan.proofs.BelowLemmas.{details_time_fits, few_mappings, few_times, few_times_below, mappings_noted, root_good, top_time_fits}
+use Rattle.pd_scan.proofs.BelowLemmas.{details_time_fits, few_mappings, few_times, few_times_below, mappings_noted, number_noted, root_good, top_time_fits}
 use Rattle.pd_scan.proofs.EntryLemmas.{entries_name_roots}
 
 -- the notes and the measures tell of the root of a sound device's tree
@@ -60,6 +60,7 @@ module _ (graph : Graph) (image : List (List ℕ)) (tables : Tables) (are : AreA
   lost_trees_are bytes = record {
     tops = are.settled.tops.roots;
     details = are.settled.details.roots;
+    number = λ b small sound. number_noted graph image 2 8 tables.tops are.settled.tops b sound;
     told = λ b small sound.
         all_from (λ (e : Entry). AreToldOf graph image tables.devices.notes tables.devices.times e.value)
         (λ (e : Entry). below_root tables.devices.notes e.value ≡ mappings_below graph image e.value) (λ e is. is.number) (top_entries graph image b) (told b sound);

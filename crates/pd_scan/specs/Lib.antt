@@ -7,3 +7,4 @@ pub mod Roots
 pub mod Partners
 pub mod Pairs
 pub mod Numbers
+pub mod States

@@ -1,11 +1,11 @@
 -- The sound trees of a pool without its superblock, and what is told of them.
-use Rattle.std.specs.Prelude.{◌≡◌, ℕ, ◌<◌, ◌^◌, true, List}
+use Rattle.std.specs.Prelude.{◌≡◌, ℕ, ◌<◌, ◌^◌, true, List, length}
 use Rattle.std.specs.List.{AllByRecursion}
 use Rattle.pd_kinds.specs.Graph.{Graph}
 use Rattle.pd_kinds.specs.Node.{Entry}
 use Rattle.pd_kinds.specs.Whole.{top_entries}
 use Rattle.pd_laid.specs.FoundRoots.{is_sound_tree}
-use Rattle.pd_graph.specs.Notes.{size_of}
+use Rattle.pd_graph.specs.Notes.{note_in, size_of}
 use Rattle.pd_measures.specs.Counts.{counts_of_details, counts_of_top, details_time, details_transaction, mappings_below, times_of_top, top_time, total_of}
 use Rattle.pd_measures.specs.Gauge.{below_root, list_measure}
 use Rattle.pd_measures.specs.Measures.{measure_at, places_of}
@@ -24,7 +24,9 @@ pub record HavePlaces (nr : ℕ) (trees : LostTrees) : Type 0 where
 pub record AreLostTrees (graph : Graph) (image : List (List ℕ)) (trees : LostTrees) : Type 0 where
   pub tops : AreRoots graph image 2 trees.tops
   pub details : AreRoots graph image 4 trees.details
-  -- how many mappings stand below each root that a sound mapping tree names
+  -- how many devices a sound mapping tree has
+  pub number : (b : ℕ) → b < graph.nr → is_sound_tree graph image 2 b ≡ true → (note_in trees.tops b).below ≡ length (top_entries graph image b)
+  -- how many mappings stand below each root that it names
   pub told : (b : ℕ) → b < graph.nr → is_sound_tree graph image 2 b ≡ true
       → AllByRecursion (λ (e : Entry). below_root trees.devices e.value ≡ mappings_below graph image e.value) (top_entries graph image b)
   pub top_measures : (b : ℕ) → b < graph.nr → is_sound_tree graph image 2 b ≡ true

@@ -173,6 +173,7 @@ pub(crate) fn number_lists<D: Device>(
         → (top details : ℕ) → may_fit trees.new top details ≡ are_fitting (lost_graph image data_blocks) image top details)) }
     ensures pairs { OnOk result ((top details : ℕ) → pair_of_trees trees.new top details ≡ pair_of_trees trees.old top details) }
     ensures places { OnOk result (HavePlaces (size_of trees.old.tops) trees.new) }
+    ensures tops { OnOk result (trees.new.tops ≡ trees.old.tops) }
     ensures kept { OnlyReads (D.state dev.old) (D.state dev.new) }
     ensures faults { CountsCheckFault result (D.state dev.old).faults (D.state dev.new).faults }
 {

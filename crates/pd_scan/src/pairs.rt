@@ -1,6 +1,6 @@
 //! Pairs of a mapping tree and a details tree, by what is measured of them, and the best of those that may fit each other.
 
-ghost use Rattle.std.specs.Prelude.{◌≡◌, ℕ, ◌<◌, true, false};
+ghost use Rattle.std.specs.Prelude.{◌≡◌, ℕ, ◌<◌, true, false, IfSome};
 ghost use Rattle.pd_graph.specs.Notes.{size_of};
 ghost use Rattle.pd_scan.specs.Pairs.{IsBestOf, better_of, improves as does_improve, may_fit as may_match, pair_of_trees};
 ghost use Rattle.pd_scan.specs.Partners.{AreBySum};
@@ -49,9 +49,10 @@ fn better(best: Option<Roots>, roots: Option<Roots>) -> Option<Roots>
 }
 
 /// The best roots of those whose mapping tree is this one, by the partners of each sum.
-fn best_of_top(trees: &LostTrees, by_sum: &BySum, top: u64) -> Option<Roots>
+pub(crate) fn best_of_top(trees: &LostTrees, by_sum: &BySum, top: u64) -> Option<Roots>
     requires { AreBySum trees.now.details trees.now.details_measures (size_of trees.now.details) by_sum.now }
-    ensures { IsBestOf (may_match trees.now) (pair_of_trees trees.now) (λ t d. t ≡ top) (found_of result) }
+    ensures best { IsBestOf (may_match trees.now) (pair_of_trees trees.now) (λ t d. t ≡ top) (found_of result) }
+    ensures own { IfSome result (λ roots. roots.top ≡ top) }
 {
     if !is_good(&trees.tops, top) {
         return None;

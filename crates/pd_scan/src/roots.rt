@@ -110,7 +110,7 @@ pub fn lost_super(
 }
 
 /// The format of a pool with so many metadata blocks, from 1 to `MAX_META_BLOCKS`, and data blocks. It depends on no root.
-fn lost_format(nr: u64, data_blocks: u64) -> ThinFormat
+pub(crate) fn lost_format(nr: u64, data_blocks: u64) -> ThinFormat
     requires some { 1 ≤ nr }
     requires few { nr ≤ MAX_META_BLOCKS }
     ensures { ⟦<ThinFormat as Format>⟧.graph result ≡ graph_of 11 nr data_blocks (thin_layout nr data_blocks) }

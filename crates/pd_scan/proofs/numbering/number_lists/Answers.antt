@@ -1,4 +1,4 @@
-use Rattle.std.proofs.Common.{◌≡◌, ℕ, IfSome, ap, subst}
+use Rattle.std.proofs.Common.{◌≡◌, ℕ, IfSome, ap, ◌∙◌, subst}
 use Rattle.std.proofs.lemmas.Result.{on_ok_weaker}
 use Rattle.pd_graph.specs.Notes.{size_of}
 use Rattle.pd_graph.proofs.AnyLemmas.{if_both}
@@ -32,3 +32,8 @@ returns-clause-fits g c =
     → AreTopsNumbered (lost_graph image data_blocks) image c.in_ok-numbers.numbers (size_of middle.tops) (size_of middle.tops) new.top_measures))
     c.in_ok-numbers.ensures.kept.held told))
     c.number_tops.ensures.numbered c.number_tops.ensures.measures
+
+pub returns-clause-tops : goal.returns-clause-tops
+returns-clause-tops g c =
+    on_ok_weaker c.number_tops.result
+    (λ is. ap (λ (t : LostTrees). t.tops) is.same ∙ ap (λ (t : LostTrees). t.tops) c.in_ok-numbers.ensures.measures.same) c.number_tops.ensures.measures

@@ -1,17 +1,18 @@
 use Rattle.std.proofs.Common.{◌≡◌, Some, None, sym, ◌∙◌, ap, subst}
 use Rattle.std.specs.BTreeMap.{get}
 use Rattle.pd_graph.specs.Notes.{size_of}
+use Rattle.pd_laid.specs.FoundRoots.{FoundRoots}
 use Rattle.pd_measures.specs.Measures.{measure_at}
 use Rattle.pd_scan.specs.Pairs.{IsBest, may_fit, pair_of_trees}
 use Rattle.pd_scan.specs.Partners.{ArePartnersBefore, best_partner, is_partner, partner_at, sum_cmp, sum_of, time_at, time_of}
-use Rattle.pd_scan.proofs.PairLemmas.{best_of_top, none_of_top}
+use Rattle.pd_scan.proofs.PairLemmas.{best_of_top, none_of_top, pair_top}
 use Rattle.pd_scan.proofs.pairs.best_of_top.Goals as goal
 
-pub returns-then-not-is_good : goal.returns-then-not-is_good
-returns-then-not-is_good c = none_of_top c.args.trees.now c.args.top (sym c.is_good.ensures ∙ c.if-not-is_good.true)
+pub returns-then-not-is_good-clause-best : goal.returns-then-not-is_good-clause-best
+returns-then-not-is_good-clause-best c = none_of_top c.args.trees.now c.args.top (sym c.is_good.ensures ∙ c.if-not-is_good.true)
 
-pub returns-in-None : goal.returns-in-None
-returns-in-None c =
+pub returns-in-None-clause-best : goal.returns-in-None-clause-best
+returns-in-None-clause-best c =
     let trees = c.args.trees.now in
     let table = c.args.by_sum.now in
     let asked = sum_of (measure_at trees.top_measures c.args.top) in
@@ -20,8 +21,8 @@ returns-in-None c =
     (subst (ArePartnersBefore (is_partner trees.details trees.details_measures asked) (partner_at trees.details_measures) (size_of trees.details))
     (sym (c.in-None.ensures.value ∙ ap (get sum_cmp table) key)) (c.requires.partners asked))
 
-pub returns-in-Some : goal.returns-in-Some
-returns-in-Some c =
+pub returns-in-Some-clause-best : goal.returns-in-Some-clause-best
+returns-in-Some-clause-best c =
     let trees = c.args.trees.now in
     let table = c.args.by_sum.now in
     let partners = c.in-Some.partners.now in
@@ -33,3 +34,6 @@ returns-in-Some c =
     (best_of_top trees c.args.top (sym c.is_good.ensures ∙ c.if-not-is_good.false) (Some partners)
     (subst (ArePartnersBefore (is_partner trees.details trees.details_measures asked) (partner_at trees.details_measures) (size_of trees.details))
     (sym (c.in-Some.ensures.value ∙ ap (get sum_cmp table) key)) (c.requires.partners asked)))
+
+pub returns-in-Some-clause-own : goal.returns-in-Some-clause-own
+returns-in-Some-clause-own c = ap (λ (r : FoundRoots). r.top) c.pair.ensures ∙ pair_top c.args.trees.now c.args.top c.best.result

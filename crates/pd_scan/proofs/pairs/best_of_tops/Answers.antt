@@ -10,4 +10,4 @@ loop-top-preserved c =
     let pair = pair_of_trees c.args.trees.now in
     subst (IsBestOf fits pair (λ t d. t < c.loop-top.top + 1)) (sym c.better-best.ensures)
     (best_of_both fits pair (λ t d. t < c.loop-top.top) (λ t d. t ≡ c.loop-top.top) (λ t d. t < c.loop-top.top + 1) (λ t d. one_top c.loop-top.top t)
-    (found_of c.loop-top.best) (found_of c.best_of_top.result) c.loop-top.invariant c.best_of_top.ensures)
+    (found_of c.loop-top.best) (found_of c.best_of_top.result) c.loop-top.invariant c.best_of_top.ensures.best)

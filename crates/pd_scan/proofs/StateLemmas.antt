@@ -1,0 +1,218 @@
+-- The states of a pool without its superblock, put in their places one after the other.
+use Rattle.std.proofs.Common.{◌≡◌, ℕ, zero, suc, ◌+◌, ◌-◌, ◌<◌, ◌≤◌, Bool, true, false, cond, not, List, [], ◌∷◌, map, filter, take, drop, insert, Option, Some, None, IfSome, refl, sym, ◌∙◌, ap, ap₂, subst, take-take, arith}
+use Rattle.std.specs.List.{AllByRecursion, cons_option, filter_map, range_with_len}
+use Rattle.std.proofs.lemmas.Bool.{both_ways, false_from_ne_true}
+use Rattle.std.proofs.lemmas.List.{length-map, take-map}
+use Rattle.pd_kinds.specs.Node.{Entry}
+use Rattle.pd_kinds.specs.Graph.{Graph}
+use Rattle.pd_kinds.specs.Meaning.{ThinDevice, thin_device}
+use Rattle.pd_kinds.specs.Whole.{details_entries, top_entries}
+use Rattle.pd_laws.proofs.AllLemmas.{all_append, all_from}
+use Rattle.pd_graph.specs.Notes.{note_in, size_of}
+use Rattle.pd_laid.specs.FoundRoots.{FoundRoots, IsFound, are_fitting, devices_below, is_better, lost_graph, roots_at}
+use Rattle.pd_measures.proofs.SoundLemmas.{root_inside}
+use Rattle.pd_answers.specs.States.{best_for, best_of, in_order, placed, states}
+use Rattle.pd_scan.specs.declared.states.State.{State}
+use Rattle.pd_scan.specs.declared.trees.LostTrees.{LostTrees}
+use Rattle.pd_scan.specs.Pairs.{AreTreesOf, IsBestOf, may_fit, pair_of_trees}
+use Rattle.pd_scan.specs.Roots.{AreInside}
+use Rattle.pd_scan.specs.States.{AreFoundStates, AreStatesOf, HasDevices, IsFitting, IsStateOf, best_among, best_states, first_of, place_among, state_roots}
+use Rattle.pd_scan.proofs.BestLemmas.{best_has, best_is, first_is_best, first_taken, ordered_have, pairs_have}
+use Rattle.pd_scan.proofs.FitLemmas.{fitting_parts}
+use Rattle.pd_scan.proofs.PairLemmas.{fitting_inside, pair_details, pair_top}
+
+-- a state is put into its place
+pub placed_is : (s : State) (xs : List State) → map state_roots (insert xs (place_among s xs) s) ≡ placed (state_roots s) (map state_roots xs)
+placed_is s [] = refl
+placed_is s (x ∷ xs) = chosen (is_better (state_roots s) (state_roots x)) (placed_is s xs)
+  where
+    chosen : (b : Bool) → map state_roots (insert xs (place_among s xs) s) ≡ placed (state_roots s) (map state_roots xs)
+        → map state_roots (insert (x ∷ xs) (cond (not b) (1 + place_among s xs) 0) s)
+        ≡ cond b (state_roots s ∷ state_roots x ∷ map state_roots xs) (state_roots x ∷ placed (state_roots s) (map state_roots xs))
+    chosen true rest = refl
+    chosen false rest =
+        let place : suc (place_among s xs) ≡ 1 + place_among s xs = omega arith in
+        subst (λ (n : ℕ). map state_roots (insert (x ∷ xs) n s) ≡ state_roots x ∷ placed (state_roots s) (map state_roots xs)) place
+        (ap (λ (rs : List FoundRoots). state_roots x ∷ rs) rest)
+
+-- the first ones of some, with one more, are told by the first ones of the others
+first_again : (n : ℕ) (x : FoundRoots) (xs : List FoundRoots) → take n (x ∷ take n xs) ≡ take n (x ∷ xs)
+first_again zero x xs = refl
+first_again (suc n) x xs = ap (λ (rs : List FoundRoots). x ∷ rs) (take-take n (suc n) xs (omega arith))
+
+placed_first : (n : ℕ) (roots : FoundRoots) (xs : List FoundRoots) → take n (placed roots (take n xs)) ≡ take n (placed roots xs)
+placed_first zero roots xs = refl
+placed_first (suc n) roots [] = refl
+placed_first (suc n) roots (x ∷ xs) = chosen (is_better roots x) (placed_first n roots xs)
+  where
+    chosen : (b : Bool) → take n (placed roots (take n xs)) ≡ take n (placed roots xs)
+        → take (suc n) (cond b (roots ∷ x ∷ take n xs) (x ∷ placed roots (take n xs))) ≡ take (suc n) (cond b (roots ∷ x ∷ xs) (x ∷ placed roots xs))
+    chosen true rest = ap (λ (rs : List FoundRoots). roots ∷ rs) (first_again n x xs)
+    chosen false rest = ap (λ (rs : List FoundRoots). x ∷ rs) rest
+
+-- what holds of each holds of the first ones, and of the others
+all_first : {X : Type 0} → (P : X → Type 0) (n : ℕ) (xs : List X) → AllByRecursion P xs → AllByRecursion P (take n xs)
+all_first P zero xs all = tt
+all_first P (suc n) [] all = tt
+all_first P (suc n) (x ∷ xs) all = (all.0, all_first P n xs all.1)
+
+all_rest : {X : Type 0} → (P : X → Type 0) (n : ℕ) (xs : List X) → AllByRecursion P xs → AllByRecursion P (drop n xs)
+all_rest P zero xs all = all
+all_rest P (suc n) [] all = tt
+all_rest P (suc n) (x ∷ xs) all = all_rest P n xs all.1
+
+all_inserted : (P : State → Type 0) (xs : List State) (i : ℕ) (s : State) → P s → AllByRecursion P xs → AllByRecursion P (insert xs i s)
+all_inserted P xs i s own all = all_append P (take i xs) (s ∷ drop i xs) (all_first P i xs all) (own, all_rest P i xs all)
+
+module _ (trees : LostTrees) (top : ℕ) where
+  abbrev best : ℕ → Option FoundRoots
+  best = best_among (may_fit trees) (pair_of_trees trees) (size_of trees.details)
+
+  its_best : (found : Option FoundRoots) → IsBestOf (may_fit trees) (pair_of_trees trees) (λ t d. t ≡ top) found
+      → IfSome found (λ (r : FoundRoots). r.top ≡ top) → found ≡ best top
+  its_best found is own =
+      best_is (may_fit trees) (pair_of_trees trees) (pair_top trees) (pair_details trees) (size_of trees.details)
+      (λ t d e. (fitting_inside trees t d e).1) top found is own
+
+  -- no state is put in where the mapping tree has none
+  pub no_state : (tops : List ℕ) (found : List State) → IsBestOf (may_fit trees) (pair_of_trees trees) (λ t d. t ≡ top) None
+      → AreStatesOf trees tops found → AreStatesOf trees (top ∷ tops) found
+  no_state tops found none are = record {
+    best = are.best ∙ ap (λ (o : Option FoundRoots). take 100 (in_order (cons_option o (filter_map best tops)))) (its_best None none tt);
+    each = are.each;
+  }
+
+  -- and else that of its best roots
+  pub one_state : (tops : List ℕ) (found : List State) (s : State) → IsBestOf (may_fit trees) (pair_of_trees trees) (λ t d. t ≡ top) (Some (state_roots s))
+      → s.roots.top ≡ top → s.devices ≡ (note_in trees.tops top).below → AreStatesOf trees tops found
+      → AreStatesOf trees (top ∷ tops) (take 100 (insert found (place_among s found) s))
+  one_state tops found s is own devices are = record {
+    best =
+        sym (take-map state_roots 100 (insert found (place_among s found) s))
+        ∙ (ap (take 100) (placed_is s found ∙ ap (placed (state_roots s)) are.best)
+        ∙ (placed_first 100 (state_roots s) (in_order (filter_map best tops))
+        ∙ ap (λ (o : Option FoundRoots). take 100 (in_order (cons_option o (filter_map best tops)))) (its_best (Some (state_roots s)) is own)));
+    each = all_first (IsStateOf trees) 100 (insert found (place_among s found) s)
+        (all_inserted (IsStateOf trees) found (place_among s found) s
+        (record { fitting = is.fitting; devices = devices ∙ ap (λ (t : ℕ). (note_in trees.tops t).below) (sym own) }) are.each);
+  }
+
+-- the tops from the last one down to one more
+pub one_more : (nr passed : ℕ) → passed < nr → range_with_len (nr - (passed + 1)) (passed + 1) ≡ (nr - (passed + 1)) ∷ range_with_len (nr - passed) passed
+one_more nr passed less =
+    let next : nr - (passed + 1) + 1 ≡ nr - passed = omega arith in
+    let more : passed + 1 ≡ suc passed = omega arith in
+    ap (range_with_len (nr - (passed + 1))) more ∙ ap (λ (first : ℕ). (nr - (passed + 1)) ∷ range_with_len first passed) next
+
+-- lists of what trees give that are told alike
+module _ (fits other : ℕ → ℕ → Bool) (pair told : ℕ → ℕ → FoundRoots) (same : (t d : ℕ) → fits t d ≡ other t d)
+    (alike : (t d : ℕ) → other t d ≡ true → told t d ≡ pair t d) where
+  pairs_alike : (top : ℕ) (ds : List ℕ) → map (pair top) (filter (fits top) ds) ≡ map (told top) (filter (other top) ds)
+  pairs_alike top [] = refl
+  pairs_alike top (d ∷ ds) =
+      ap (λ (b : Bool). map (pair top) (cond b (d ∷ filter (fits top) ds) (filter (fits top) ds))) (same top d) ∙ chosen (other top d) refl (pairs_alike top ds)
+    where
+      chosen : (b : Bool) → other top d ≡ b → map (pair top) (filter (fits top) ds) ≡ map (told top) (filter (other top) ds)
+          → map (pair top) (cond b (d ∷ filter (fits top) ds) (filter (fits top) ds)) ≡ map (told top) (cond b (d ∷ filter (other top) ds) (filter (other top) ds))
+      chosen true e rest = ap₂ (λ (r : FoundRoots) (rs : List FoundRoots). r ∷ rs) (sym (alike top d e)) rest
+      chosen false e rest = rest
+
+  bests_alike : (nr : ℕ) (tops : List ℕ) → filter_map (best_among fits pair nr) tops ≡ filter_map (best_among other told nr) tops
+  bests_alike nr [] = refl
+  bests_alike nr (top ∷ tops) =
+      ap₂ (λ (o : Option FoundRoots) (rs : List FoundRoots). cons_option o rs) (ap best_of (pairs_alike top (range_with_len 0 nr))) (bests_alike nr tops)
+
+  pub states_alike : (nr : ℕ) (tops : List ℕ) → best_states fits pair nr tops ≡ best_states other told nr tops
+  states_alike nr tops = ap (λ (rs : List FoundRoots). take 100 (in_order rs)) (bests_alike nr tops)
+
+-- the states of trees are those of the image, where they fit by what is measured of them just where they do
+module _ (image : List (List ℕ)) (data_blocks : ℕ) (old new : LostTrees) (are : AreTreesOf image data_blocks old)
+    (tops : new.tops ≡ old.tops) (places : size_of new.details ≡ size_of old.tops)
+    (fits : (t d : ℕ) → may_fit new t d ≡ are_fitting (lost_graph image data_blocks) image t d)
+    (roots : (t d : ℕ) → are_fitting (lost_graph image data_blocks) image t d ≡ true → roots_at (lost_graph image data_blocks) image t d ≡ pair_of_trees new t d) where
+  abbrev graph : Graph
+  graph = lost_graph image data_blocks
+
+  devices_of : (s : State) → IsStateOf new s → HasDevices graph image s
+  unfolding devices_below
+  devices_of s is =
+      let fit = sym (fits s.roots.top s.roots.details) ∙ is.fitting in
+      let sound = (fitting_parts graph image s.roots.top s.roots.details fit).0 in
+      is.devices ∙ (ap (λ notes. (note_in notes s.roots.top).below) tops
+      ∙ (are.told.number s.roots.top (root_inside graph image 2 s.roots.top sound) sound
+      ∙ sym (length-map {A = Entry} {B = ThinDevice} (top_entries graph image s.roots.top) (thin_device graph image (details_entries graph image s.roots.details)))))
+
+  pub states_found : (found : List State) → AreStatesOf new (range_with_len 0 (size_of new.tops)) found → AreFoundStates graph image found
+  unfolding states best_for
+  states_found found is = record {
+    best =
+        let number : size_of new.tops ≡ graph.nr = ap size_of tops ∙ sym are.number in
+        let others : size_of new.details ≡ graph.nr = places ∙ sym are.number in
+        is.best
+        ∙ (ap₂ (λ (n m : ℕ). best_states (may_fit new) (pair_of_trees new) n (range_with_len 0 m)) others number
+        ∙ states_alike (may_fit new) (are_fitting graph image) (pair_of_trees new) (roots_at graph image) fits roots graph.nr (range_with_len 0 graph.nr));
+    devices = all_from (IsStateOf new) (HasDevices graph image) devices_of found is.each;
+  }
+
+-- both roots of each are inside
+pub states_inside : (trees : LostTrees) (n : ℕ) → size_of trees.tops ≡ n → size_of trees.details ≡ n → (found : List State)
+    → AllByRecursion (IsStateOf trees) found → AllByRecursion (λ (s : State). AreInside n s.roots) found
+states_inside trees n tops details found all =
+    all_from (IsStateOf trees) (λ (s : State). AreInside n s.roots) (λ s is.
+    let inside = fitting_inside trees s.roots.top s.roots.details is.fitting in
+    let first = inside.0 in
+    let second = inside.1 in
+    record { top = omega arith; details = omega arith }) found all
+
+-- the states of an image are pairs of trees that fit each other, and the first one is the best
+module _ (image : List (List ℕ)) (data_blocks : ℕ) where
+  abbrev lost : Graph
+  lost = lost_graph image data_blocks
+
+  top_of_roots : (t d : ℕ) → (roots_at lost image t d).top ≡ t
+  unfolding roots_at
+  top_of_roots t d = refl
+
+  details_of_roots : (t d : ℕ) → (roots_at lost image t d).details ≡ d
+  unfolding roots_at
+  details_of_roots t d = refl
+
+  is_fitting : (t d : ℕ) → are_fitting lost image t d ≡ true → IsFitting lost image (roots_at lost image t d)
+  is_fitting t d e = (
+    ap₂ (are_fitting lost image) (top_of_roots t d) (details_of_roots t d) ∙ e,
+    sym (ap₂ (roots_at lost image) (top_of_roots t d) (details_of_roots t d)),
+  )
+
+  pub all_fit : AllByRecursion (IsFitting lost image) (states lost image)
+  unfolding states best_for
+  all_fit =
+      let best = best_among (are_fitting lost image) (roots_at lost image) lost.nr in
+      all_first (IsFitting lost image) 100 (in_order (filter_map best (range_with_len 0 lost.nr)))
+      (ordered_have (IsFitting lost image) best (λ t.
+      best_has (IsFitting lost image) (map (roots_at lost image t) (filter (are_fitting lost image t) (range_with_len 0 lost.nr)))
+      (pairs_have (IsFitting lost image) (are_fitting lost image t) (roots_at lost image t) (is_fitting t) (range_with_len 0 lost.nr))) (range_with_len 0 lost.nr))
+
+  best_is_found : (found : Option FoundRoots) → IsBestOf (are_fitting lost image) (roots_at lost image) (λ t d. (0 ≤ t) × (t < 0 + lost.nr)) found
+      → IsFound lost image found
+  best_is_found None none = λ t d.
+      false_from_ne_true (are_fitting lost image t d)
+      (λ e. let less = root_inside lost image 2 t (fitting_parts lost image t d e).0 in both_ways (are_fitting lost image t d) (none t d (omega arith, omega arith)) e)
+  best_is_found (Some roots) is = record {
+    fitting = is.fitting;
+    numbers = is.numbers;
+    best = λ t d e. let less = root_inside lost image 2 t (fitting_parts lost image t d e).0 in is.none_better t d (omega arith, omega arith) e;
+  }
+
+  pub first_is_found : IsFound lost image (first_of (states lost image))
+  unfolding states best_for
+  first_is_found =
+      let ordered = in_order (filter_map (best_among (are_fitting lost image) (roots_at lost image) lost.nr) (range_with_len 0 lost.nr)) in
+      subst (IsFound lost image) (sym (first_taken 99 ordered))
+      (best_is_found (first_of ordered)
+      (first_is_best (are_fitting lost image) (roots_at lost image) top_of_roots details_of_roots lost.nr
+      (λ t d e. root_inside lost image 4 d (fitting_parts lost image t d e).1) 0 lost.nr))
+
+  -- of no blocks there is none
+  pub no_states : lost.nr ≡ 0 → states lost image ≡ []
+  unfolding states
+  no_states none = ap (λ (n : ℕ). take 100 (in_order (filter_map (best_for lost image) (range_with_len 0 n)))) none
