@@ -5,3 +5,7 @@ pub mod TellingLemmas
 pub mod TextLemmas
 pub mod WeighingLemmas
 pub mod QueryLemmas
+pub mod LackingLemmas
+pub mod BoundLemmas
+pub mod LatestLemmas
+pub mod StatesLemmas

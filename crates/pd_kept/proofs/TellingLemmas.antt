@@ -16,7 +16,7 @@ use Rattle.pd_kept.specs.Stored.{AreStored, AscendBelow, pair_of}
 use Rattle.pd_kept.proofs.RangeLines.{first_line, none_from}
 
 -- what is found in a list whose keys ascend
-lookup_past : (end least : ℕ) (items : List (ℕ × ℕ)) (n : ℕ) → AscendBelow end least items → n < least → lookup n items ≡ None
+pub lookup_past : (end least : ℕ) (items : List (ℕ × ℕ)) (n : ℕ) → AscendBelow end least items → n < least → lookup n items ≡ None
 unfolding lookup
 lookup_past end least [] n are past = refl
 lookup_past end least (item ∷ items) n are past =
@@ -24,15 +24,15 @@ lookup_past end least (item ∷ items) n are past =
     let other : eqb item.0 n ≡ false = grind (arith, nat_tests) in
     rw other (lookup_past end (item.0 + 1) items n are.2 (omega arith))
 
-lookup_other : (k m : ℕ) (items : List (ℕ × ℕ)) (n : ℕ) → (k ≡ n → ⊥) → lookup n ((k, m) ∷ items) ≡ lookup n items
+pub lookup_other : (k m : ℕ) (items : List (ℕ × ℕ)) (n : ℕ) → (k ≡ n → ⊥) → lookup n ((k, m) ∷ items) ≡ lookup n items
 unfolding lookup
 lookup_other k m items n ne = let other : eqb k n ≡ false = grind (arith, nat_tests, ne) in rw other refl
 
-lookup_here : (k m : ℕ) (items : List (ℕ × ℕ)) → lookup k ((k, m) ∷ items) ≡ Some m
+pub lookup_here : (k m : ℕ) (items : List (ℕ × ℕ)) → lookup k ((k, m) ∷ items) ≡ Some m
 unfolding lookup
 lookup_here k m items = let same : eqb k k ≡ true = grind (arith, nat_tests) in rw same refl
 
-from_less : (end less least : ℕ) (items : List (ℕ × ℕ)) → less ≤ least → AscendBelow end least items → AscendBelow end less items
+pub from_less : (end less least : ℕ) (items : List (ℕ × ℕ)) → less ≤ least → AscendBelow end least items → AscendBelow end less items
 from_less end less least [] below are = tt
 from_less end less least (item ∷ items) below are = let first = are.0 in (omega arith, are.1, are.2)
 

@@ -39,7 +39,7 @@ parts_pairs leaves [] ps runs = refl
 parts_pairs leaves (d ∷ ds) ps runs =
     ap (λ (items : List (ℕ × ℕ)). (d.id, d.details.mapped) ∷ items) (parts_pairs leaves ds (drop d.pieces ps) (drop (runs_of_pieces (take d.pieces ps)) runs))
 
-pairs_are : (h : HeldShape) → map device_pair (pool_of (held_shape h)).devices ≡ map saved_pair h.devices
+pub pairs_are : (h : HeldShape) → map device_pair (pool_of (held_shape h)).devices ≡ map saved_pair h.devices
 unfolding held_shape pool_of
 pairs_are h = parts_pairs (map mappings_of_runs (leaf_parts h.leaves h.leaf_runs)) h.devices h.pieces h.runs
 
@@ -63,7 +63,7 @@ line_is id [] stored = refl
 line_is id (d ∷ ds) stored =
     first_device id (nat_eq d.id id) d (find (λ (e : ThinDevice). nat_eq e.id id) ds) (lookup id (map device_pair ds)) stored (line_is id ds stored)
 
-found_is : (fields : ThinFields) (image : List (List ℕ)) (id : ℕ) → found_mapped fields image id ≡ lookup id (stored_numbers fields image)
+pub found_is : (fields : ThinFields) (image : List (List ℕ)) (id : ℕ) → found_mapped fields image id ≡ lookup id (stored_numbers fields image)
 unfolding stored_numbers
 found_is fields image id = sym (lookup_entries stored_word id (salvaged_entries 24 fields.meta_map.blocks image fields.details_root))
 

@@ -3,17 +3,22 @@
 #![tactic(auto)]
 
 mod kept;
+mod lacking;
+mod latest;
 mod lines;
 mod merging;
 mod query;
 mod room;
+mod states;
 mod stored;
 #[cfg(test)]
 mod tests;
 mod weighing;
 
 pub use kept::{Kept, KeptDevice};
+pub use latest::time_of_saved;
 pub use lines::put_kept;
 pub use query::KeptOfPool;
 pub use room::least_room;
+pub use states::{Looked, look_for_states, put_looked};
 pub use weighing::kept_by_repair;

@@ -30,7 +30,7 @@ pub fn put_kept<K: Sink>(kept: &Kept, out: &mut K) -> Result<(), Failed>
 }
 
 /// Prints what is kept.
-fn print_kept<K: Sink>(kept: &Kept, printer: &mut Printer<'_, K>) -> Result<(), Failed>
+pub(crate) fn print_kept<K: Sink>(kept: &Kept, printer: &mut Printer<'_, K>) -> Result<(), Failed>
     requires { (K.state printer.old.out.now).access ≡ 1 }
     ensures same_reference { printer.new.out.ghost_name ≡ printer.old.out.ghost_name }
     ensures prints { Prints (told_text (told_of kept.now)) result (printing K.state printer.old) (printing K.state printer.new) }

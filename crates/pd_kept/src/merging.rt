@@ -70,7 +70,7 @@ fn kept_device(device: &ShapedDevice, mapped: Option<u64>) -> KeptDevice
 }
 
 /// The number in a place, where it is this device's.
-fn stored_at(stored: &[StoredNumber], at: usize, id: u64) -> Option<u64>
+pub(crate) fn stored_at(stored: &[StoredNumber], at: usize, id: u64) -> Option<u64>
     ensures stored { IsStoredAt id result at stored.now }
     ensures within { IfSome result (λ _. at < length stored.now) }
 {

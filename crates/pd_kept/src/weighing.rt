@@ -34,7 +34,6 @@ pub fn kept_by_repair<D: Device>(
     s: &ThinSuper,
 ) -> Result<Kept, SalvageFault>
     requires attached { IsAttached (D.state dev.old) }
-    requires some { 1 ≤ s.now.meta_map.blocks }
     requires within { s.now.meta_map.blocks ≤ (D.state dev.old).blocks }
     requires few { s.now.meta_map.blocks ≤ 4161600 }
     requires data { s.now.data_map.blocks ≤ 2 ^ 40 }

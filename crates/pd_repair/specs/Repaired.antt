@@ -44,13 +44,17 @@ IsOfFaults (NoRoom need blocks) broken = broken ≡ []
 abbrev pub AnswersSuper : {T : Type 0} → Result T RepairFault → List Fault → Type 0
 AnswersSuper result broken = MatchResult result (λ done. broken ≡ []) (λ fault. IsOfFaults fault broken)
 
--- a repair: rules are reported exactly where the superblock breaks them, and only a read can fail before
-pub record IsRepairedAs {M : Type 0} (content : M → Content) (saved : List (List ℕ) → M)
+-- a repair that looks at these faults: they are reported exactly where there are some, and only a read can fail before
+pub record IsRepairedBy {M : Type 0} (broken : List (List ℕ) → List Fault) (content : M → Content) (saved : List (List ℕ) → M)
     (result : Result (Unit {0}) RepairFault) (from old new : DeviceState) : Type 0 where
   pub pool : M
   pub right : IfSome from.held (λ image. pool ≡ saved image)
-  pub rules : IfSome from.held (λ image. AnswersSuper result (faults Thin Super image))
+  pub rules : IfSome from.held (λ image. AnswersSuper result (broken image))
   pub output : IsMade (content pool) (output_ending result) old new
+
+-- one that looks at those of the superblock
+abbrev pub IsRepairedAs : {M : Type 0} (content : M → Content) → (List (List ℕ) → M) → Result (Unit {0}) RepairFault → DeviceState → DeviceState → DeviceState → Type 0
+IsRepairedAs content saved result from old new = IsRepairedBy (faults Thin Super) content saved result from old new
 
 abbrev pub IsRepaired : Result (Unit {0}) RepairFault → DeviceState → DeviceState → DeviceState → Type 0
 IsRepaired result from old new = IsRepairedAs pool_content salvage result from old new

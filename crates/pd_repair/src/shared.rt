@@ -48,7 +48,6 @@ pub fn repair_shared_from<A: Device, B: Device>(
 ) -> Result<(), RepairFault>
     requires attached { IsAttached (A.state input.old) }
     requires writable { IsWritable (B.state output.old) }
-    requires some { 1 ≤ s.now.meta_map.blocks }
     requires there { s.now.meta_map.blocks ≤ (A.state input.old).blocks }
     requires few { s.now.meta_map.blocks ≤ 4161600 }
     requires data { s.now.data_map.blocks ≤ 2 ^ 40 }

@@ -1,0 +1,25 @@
+-- The states of a pool without its superblock, and their lines.
+use Rattle.std.specs.Prelude.{ℕ, List, [], ◌∷◌, ◌++◌, codes, decimal}
+use Rattle.std.specs.List.{flat_map}
+use Rattle.pd_answers.specs.KeptLines.{told_text}
+use Rattle.pd_scan.specs.declared.roots.Roots.{Roots}
+use Rattle.pd_scan.specs.declared.states.State.{State}
+use Rattle.pd_kept.specs.declared.states.Looked.{Looked}
+use Rattle.pd_kept.specs.Kept.{told_of}
+
+-- the line of a state that was found: its roots, and what stands below them
+abbrev pub roots_words : Roots → List ℕ
+roots_words roots = codes "roots " ++ (decimal roots.top ++ (codes " " ++ decimal roots.details))
+
+abbrev pub counts_words : State → List ℕ
+counts_words state = codes " devices " ++ (decimal state.devices ++ (codes " mappings " ++ decimal state.roots.mappings))
+
+abbrev pub latest_words : Roots → List ℕ
+latest_words roots = codes " transaction " ++ (decimal roots.transaction ++ (codes " time " ++ (decimal roots.time ++ (10 ∷ []))))
+
+abbrev pub found_line : State → List ℕ
+found_line state = roots_words state.roots ++ (counts_words state ++ latest_words state.roots)
+
+-- the lines of the states, and what is kept
+unfoldable pub looked_text : Looked → List ℕ
+looked_text looked = flat_map found_line looked.states.items ++ told_text (told_of looked.kept)

@@ -1,0 +1,109 @@
+//! The time of a pool that is saved by a superblock without one.
+
+ghost use Rattle.std.specs.Prelude.{◌≡◌, ◌++◌, ◌^◌, ◌≤◌, ℕ, List, max, map, fold, IfOk, IfSome};
+ghost use Rattle.std.specs.List.{flat_map};
+ghost use Rattle.pd_image.specs.Device.{IsAttached, OnlyReads};
+ghost use Rattle.pd_answers.specs.NamedRoots.{saved_time};
+ghost use Rattle.pd_salvage.specs.Faults.{CountsSalvage};
+ghost use Rattle.pd_kept.specs.Latest.{latest_of_shape, own_times, time_by, times_of_run, times_of_runs};
+ghost use Rattle.pd_kept.specs.Stored.{AreStored, pair_of};
+
+use crate::lacking::lacks_details;
+use crate::stored::{StoredNumber, read_stored};
+use pd_image::Device;
+use pd_kinds::ThinSuper;
+use pd_runs::PackedRuns;
+use pd_salvage::{SalvageFault, SavedShape, ShapedDevice};
+use pd_salvage_shapes::salvage_shape;
+use pd_saved_shapes::saved_shapes_mean_what_is_saved;
+use pd_thin_meaning::Run;
+use std::alloc::Global;
+
+/// The time that the pool has which is saved with this superblock, where none is known: the latest time of its mappings, and
+/// at which a device was made or last shared. Where a device has lost its details it is one more, up to 2^32 - 1, as a mapping
+/// of the latest time may be shared then.
+///
+/// It reads as a repair with shared leaves does, and the details once more, and takes the memory of what that saves and 16
+/// bytes for each device that has details.
+///
+/// Fails with `Device` where a read failed, and with `Memory` where memory wasn't found.
+pub fn time_of_saved<D: Device>(
+    alloc: Global,
+    dev: &mut D,
+    s: &ThinSuper,
+) -> Result<u32, SalvageFault>
+    requires attached { IsAttached (D.state dev.old) }
+    requires within { s.now.meta_map.blocks ≤ (D.state dev.old).blocks }
+    requires few { s.now.meta_map.blocks ≤ 4161600 }
+    requires data { s.now.data_map.blocks ≤ 2 ^ 40 }
+    ensures told { IfOk result (λ time. IfSome (D.state dev.old).held (λ image. time ≡ saved_time s.now image)) }
+    ensures kept { OnlyReads (D.state dev.old) (D.state dev.new) }
+    ensures faults { CountsSalvage result (D.state dev.old).faults (D.state dev.new).faults }
+{
+    saved_shapes_mean_what_is_saved();
+    let saved = salvage_shape(alloc, dev, s)?;
+    let stored = read_stored(alloc, dev, s)?;
+    Ok(time_of(&saved, stored.as_slice()))
+}
+
+/// The time of what is saved, where these are the devices that have details.
+fn time_of(saved: &SavedShape, stored: &[StoredNumber]) -> u32
+    requires { AreStored 0 (map pair_of stored.now) }
+    ensures { result ≡ time_by saved.now stored.now }
+{
+    // For the proof alone, which learns here that the devices' ids ascend.
+    let _ = saved.head();
+    let latest = latest_time(saved);
+    if lacks_details(saved.devices(), stored) {
+        latest.saturating_add(1)
+    } else {
+        latest
+    }
+}
+
+/// The latest time of what is saved.
+fn latest_time(saved: &SavedShape) -> u32
+    ensures { result ≡ latest_of_shape saved.now }
+{
+    // For the proof alone, which learns here that each run is of a leaf or a device, and that each leaf is used.
+    let _ = saved.head();
+    let devices = latest_of_devices(saved.devices());
+    let leaves = latest_of_runs(saved.leaf_runs());
+    let own = latest_of_runs(saved.runs());
+    devices.max(leaves).max(own)
+}
+
+/// The latest time at which one of these devices was made or last shared.
+fn latest_of_devices(devices: &[ShapedDevice]) -> u32
+    ensures { result ≡ fold max 0 (flat_map own_times devices.now) }
+{
+    let mut latest = 0;
+    for device in devices {
+        latest = latest
+            .max(device.details.created)
+            .max(device.details.snapped);
+    }
+    latest
+}
+
+/// The latest time of the mappings of these runs.
+fn latest_of_runs(runs: &PackedRuns) -> u32
+    ensures { result ≡ fold max 0 (times_of_runs runs.now) }
+{
+    let mut latest = 0;
+    let mut place = runs.first();
+    while let Some(run) = runs.next(&mut place) {
+        latest = later_of(latest, run);
+    }
+    latest
+}
+
+/// The later one of a time and that of a run, unless the run is empty.
+fn later_of(latest: u32, run: Run) -> u32
+    ensures { (times : List ℕ) → fold max latest (times_of_run run ++ times) ≡ fold max result times }
+{
+    if run.length == 0 {
+        return latest;
+    }
+    latest.max(run.time)
+}
