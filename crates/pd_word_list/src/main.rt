@@ -11,20 +11,14 @@ fn main(rt: HostRuntime) -> io::Result<()> {
     Ok(())
 }
 
-/// Puts the name of a tool and the words of a form of it. What may be left out stands in brackets, and so do words that go together.
+/// Puts the name of a tool and the words of a form of it. What may be left out stands in brackets.
 fn put_tool(rt: &impl Print, row: &ToolWords) -> io::Result<()> {
     print!(rt; "{}", row.name)?;
-    let mut is_open = false;
     for word in row.words {
-        let is_together = matches!(word.need, Need::Together(_));
-        if is_open & !is_together {
-            print!(rt; "]")?;
-        }
-        print!(rt; "{}", if is_together & !is_open { " [" } else { " " })?;
+        print!(rt; " ")?;
         put_word(rt, word)?;
-        is_open = is_together;
     }
-    println!(rt; "{}", if is_open { "]" } else { "" })
+    println!(rt; "")
 }
 
 /// Puts a word with what its value is.
@@ -37,7 +31,6 @@ fn put_word(rt: &impl Print, word: &Word) -> io::Result<()> {
         Need::Mark => print!(rt; "{}", word.name),
         Need::Wanted(value) => print!(rt; "{} {}", word.name, shown(value)),
         Need::Optional(value) => print!(rt; "[{} {}]", word.name, shown(value)),
-        Need::Together(value) => print!(rt; "{} {}", word.name, shown(value)),
     }
 }
 

@@ -4,9 +4,9 @@ use Rattle.std.specs.List.{list_any}
 use Rattle.pd_answers.specs.Tools as asked
 use Rattle.pd_answers.specs.Words.{is_named_flag}
 use Rattle.pd_words.specs.declared.table.Need.{Need}
-use Rattle.pd_words.specs.declared.table.Need.TheVariants.{Flag, Mark, Wanted, Optional, Together}
+use Rattle.pd_words.specs.declared.table.Need.TheVariants.{Flag, Mark, Wanted, Optional}
 use Rattle.pd_words.specs.declared.table.Tool.{Tool}
-use Rattle.pd_words.specs.declared.table.Tool.TheVariants.{Check, Dump, Restore, Repair, DryRepair, RepairCache, ReverseMap, DeviceList, Since, Generate, Rehearse, Writeback, Shrink}
+use Rattle.pd_words.specs.declared.table.Tool.TheVariants.{Check, Dump, Restore, Repair, Search, NamedRepair, DryRepair, DrySearch, DryNamed, RepairCache, ReverseMap, DeviceList, Since, Generate, Rehearse, Writeback, Shrink}
 use Rattle.pd_words.specs.declared.table.ToolWords.{ToolWords}
 use Rattle.pd_words.specs.declared.table.Value.{Value}
 use Rattle.pd_words.specs.declared.table.Value.TheVariants.{File, Device, Stage, Version, Region, UpTo, Generated}
@@ -26,7 +26,6 @@ need_as Flag = asked.flag
 need_as Mark = asked.mark
 need_as (Wanted value) = asked.wanted (value_as value)
 need_as (Optional value) = asked.optional (value_as value)
-need_as (Together value) = asked.together (value_as value)
 
 abbrev pub word_as : Word → asked.Word
 word_as word = record { name = word.name.now; need = need_as word.need }
@@ -36,7 +35,11 @@ tool_as (Check kind) = asked.check_tool kind
 tool_as (Dump kind) = asked.dump_tool kind
 tool_as (Restore kind) = asked.restore_tool kind
 tool_as Repair = asked.repair_tool
+tool_as Search = asked.search_tool
+tool_as NamedRepair = asked.named_repair_tool
 tool_as DryRepair = asked.dry_repair_tool
+tool_as DrySearch = asked.dry_search_tool
+tool_as DryNamed = asked.dry_named_tool
 tool_as RepairCache = asked.cache_repair_tool
 tool_as ReverseMap = asked.rmap_tool
 tool_as DeviceList = asked.device_list_tool

@@ -3,12 +3,15 @@ use Rattle.std.specs.Prelude.{◌≡◌, ◌⊎◌, ℕ, ◌^◌, ◌<◌, ◌�
 use Rattle.std.specs.Option.{option_map}
 use Rattle.pd_words.specs.declared.request.Asked.{Asked}
 use Rattle.pd_words.specs.declared.request.Asked.TheVariants as code
+use Rattle.pd_words.specs.declared.request.GivenSuper.{GivenSuper}
 use Rattle.pd_words.specs.declared.request.ImageQuery.{ImageQuery}
 use Rattle.pd_words.specs.declared.request.Name.{Name}
+use Rattle.pd_words.specs.declared.request.NamedRoots.{NamedRoots}
 use Rattle.pd_words.specs.declared.request.Request.{Request}
-use Rattle.pd_words.specs.declared.request.Request.TheVariants.{Check, PassingCheck, CheckAndClear, Dump, DumpShared, Restore, Repair, Search, DryRun, RepairCache, Rmap, List as ListDevices, Since, Generate, Rehearse, Writeback, Shrink}
+use Rattle.pd_words.specs.declared.request.Request.TheVariants.{Check, PassingCheck, CheckAndClear, Dump, DumpShared, Restore, Repair, Search, RepairNamed, DryRun, DrySearch, RepairCache, Rmap, List as ListDevices, Since, Generate, Rehearse, Writeback, Shrink}
 use Rattle.pd_words.specs.declared.request.WordFault.{WordFault}
 use Rattle.pd_words.specs.Items.{word_at}
+use Rattle.pd_answers.specs.NamedRoots as roots
 use Rattle.pd_answers.specs.QueryLines as ask
 use Rattle.pd_answers.specs.Requests as requests
 
@@ -28,6 +31,13 @@ asked_as code.DeviceList = ask.device_list
 asked_as (code.Since era) = ask.since era
 asked_as code.Kept = ask.kept
 
+-- what is given of a superblock, and the roots that are named, as the definitions speak of them
+abbrev pub given_as : GivenSuper → roots.GivenSuper
+given_as given = record { transaction = given.transaction; block_size = given.block_size; blocks = given.blocks }
+
+abbrev pub named_as : NamedRoots → roots.NamedRoots
+named_as named = record { top = named.top; details = named.details }
+
 -- the request as the definitions speak of it, with the words that its names stand for
 abbrev pub request_as : List (List ℕ) → Request → requests.Request
 request_as words (Check kind until image) = requests.check kind until (word_of words image)
@@ -39,6 +49,9 @@ request_as words (Restore kind text image version) = requests.restore kind versi
 request_as words (Repair input output shared) = requests.repair shared (word_of words input) (word_of words output)
 request_as words (Search input output shared transaction block_size blocks) =
     requests.search shared (word_of words input) (word_of words output) transaction block_size blocks
+request_as words (RepairNamed input output shared given named) =
+    requests.repair_named shared (word_of words input) (word_of words output) (given_as given) (named_as named)
+request_as words (DrySearch input given named) = requests.dry_search (word_of words input) (given_as given) (option_map named_as named)
 request_as words (DryRun input) = requests.query ask.kept None (word_of words input)
 request_as words (RepairCache input output version) = requests.repair_cache version (word_of words input) (word_of words output)
 request_as words (Rmap first end image out) = requests.query (ask.reverse_map first end) (words_of words out) (word_of words image)
@@ -102,6 +115,8 @@ AreNames number (DumpShared image out) = IsName number image × IsNameIfAny numb
 AreNames number (Restore kind text image version) = IsName number text × IsName number image × IsVersion version
 AreNames number (Repair input output shared) = IsName number input × IsName number output
 AreNames number (Search input output shared transaction block_size blocks) = IsName number input × IsName number output × IsPoolSize blocks
+AreNames number (RepairNamed input output shared given named) = IsName number input × IsName number output × IsPoolSize given.blocks
+AreNames number (DrySearch input given named) = IsName number input × IsPoolSize given.blocks
 AreNames number (DryRun input) = IsName number input
 AreNames number (RepairCache input output version) = IsName number input × IsName number output × IfSome version IsVersion
 AreNames number (Rmap first end image out) = IsName number image × IsNameIfAny number out

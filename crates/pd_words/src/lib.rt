@@ -4,10 +4,12 @@
 mod forms;
 mod items;
 mod numbers;
+mod repairs;
 mod request;
 mod table;
+mod values;
 mod words;
 
-pub use request::{Asked, ImageQuery, Name, Request, WordFault};
+pub use request::{Asked, GivenSuper, ImageQuery, Name, NamedRoots, Request, WordFault};
 pub use table::{IMAGE, Need, TOOLS, Tool, ToolWords, Value, Word};
 pub use words::read_words;

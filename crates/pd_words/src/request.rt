@@ -20,6 +20,24 @@ impl Name {
     }
 }
 
+/// What is given of a superblock that is lost, or isn't to be used.
+#[derive(Clone, Copy, Debug, PartialEq, Eq)]
+pub struct GivenSuper {
+    /// The transaction of the pool.
+    pub transaction: u64,
+    /// The size of a data block in sectors of 512 bytes.
+    pub block_size: u32,
+    /// The number of data blocks.
+    pub blocks: u64,
+}
+
+/// The roots of a mapping tree and of a details tree, as block numbers of the metadata device.
+#[derive(Clone, Copy, Debug, PartialEq, Eq)]
+pub struct NamedRoots {
+    pub top: u64,
+    pub details: u64,
+}
+
 /// What the words of a command line ask for. A name is the word that names an object: `image` an image, `text` the
 /// file of a text, and `out` the file for what is printed, without which it is the standard output.
 #[derive(Clone, Copy)]
@@ -75,9 +93,24 @@ pub enum Request {
         block_size: u32,
         blocks: u64,
     },
+    /// The same, from roots that are named.
+    RepairNamed {
+        input: Name,
+        output: Name,
+        shared: bool,
+        given: GivenSuper,
+        named: NamedRoots,
+    },
     /// What a repair would keep of an image; nothing is written.
     DryRun {
         input: Name,
+    },
+    /// What a repair without a superblock would keep of an image: from roots that are named, or else from those that a
+    /// search finds; nothing is written.
+    DrySearch {
+        input: Name,
+        given: GivenSuper,
+        named: Option<NamedRoots>,
     },
     /// An image of what can be saved of a cache, with this version of the metadata, or else its own.
     RepairCache {
@@ -180,6 +213,8 @@ impl Request {
             | Request::Restore { .. }
             | Request::Repair { .. }
             | Request::Search { .. }
+            | Request::RepairNamed { .. }
+            | Request::DrySearch { .. }
             | Request::RepairCache { .. }
             | Request::Generate { .. }
             | Request::Rehearse { .. }

@@ -18,8 +18,16 @@ pub enum Tool {
     Restore(Kind),
     /// thin_repair
     Repair,
+    /// thin_repair without a superblock
+    Search,
+    /// thin_repair from named roots
+    NamedRepair,
     /// thin_repair --dry-run
     DryRepair,
+    /// thin_repair --dry-run without a superblock
+    DrySearch,
+    /// thin_repair --dry-run from named roots
+    DryNamed,
     /// cache_repair
     RepairCache,
     /// thin_rmap
@@ -68,8 +76,6 @@ pub enum Need {
     Wanted(Value),
     /// Once or not at all, with a value.
     Optional(Value),
-    /// The same, but with all words of its tool that are so, or with none of them.
-    Together(Value),
 }
 
 /// A word that can be given, by its name.
@@ -174,19 +180,31 @@ pub(crate) const NUMBER: Word = Word {
 /// The transaction of a superblock that is wanting.
 pub(crate) const TRANSACTION: Word = Word {
     name: "--transaction-id",
-    need: Need::Together(Value::UpTo(u64::MAX)),
+    need: Need::Wanted(Value::UpTo(u64::MAX)),
 };
 
 /// Its block size in sectors.
 pub(crate) const BLOCK_SIZE: Word = Word {
     name: "--data-block-size",
-    need: Need::Together(Value::UpTo(u32::MAX as u64)),
+    need: Need::Wanted(Value::UpTo(u32::MAX as u64)),
 };
 
 /// Its number of data blocks.
 pub(crate) const DATA_BLOCKS: Word = Word {
     name: "--nr-data-blocks",
-    need: Need::Together(Value::UpTo(1 << 40)),
+    need: Need::Wanted(Value::UpTo(1 << 40)),
+};
+
+/// The root of its mapping tree.
+pub(crate) const MAPPING_ROOT: Word = Word {
+    name: "--mapping-root",
+    need: Need::Wanted(Value::UpTo(u64::MAX)),
+};
+
+/// The root of its details tree.
+pub(crate) const DETAILS_ROOT: Word = Word {
+    name: "--details-root",
+    need: Need::Wanted(Value::UpTo(u64::MAX)),
 };
 
 /// The metadata of a cache.
@@ -219,9 +237,9 @@ pub(crate) const BLOCKS: Word = Word {
     need: Need::Wanted(Value::UpTo(u64::MAX)),
 };
 
-/// The forms of the tools, and what can be given to each. A tool whose name stands twice has two forms, and takes the first that
-/// has all words that are given.
-pub static TOOLS: [ToolWords; 19] = [
+/// The forms of the tools, and what can be given to each. A tool whose name stands more than once has as many forms, and takes
+/// the first that has all words that are given.
+pub static TOOLS: [ToolWords; 23] = [
     ToolWords {
         name: "thin_check",
         tool: Tool::Check(Kind::Thin),
@@ -270,12 +288,50 @@ pub static TOOLS: [ToolWords; 19] = [
     ToolWords {
         name: "thin_repair",
         tool: Tool::Repair,
+        words: &[SHARED, INPUT, OUTPUT],
+    },
+    ToolWords {
+        name: "thin_repair",
+        tool: Tool::Search,
         words: &[SHARED, INPUT, OUTPUT, TRANSACTION, BLOCK_SIZE, DATA_BLOCKS],
+    },
+    ToolWords {
+        name: "thin_repair",
+        tool: Tool::NamedRepair,
+        words: &[
+            SHARED,
+            INPUT,
+            OUTPUT,
+            MAPPING_ROOT,
+            DETAILS_ROOT,
+            TRANSACTION,
+            BLOCK_SIZE,
+            DATA_BLOCKS,
+        ],
     },
     ToolWords {
         name: "thin_repair",
         tool: Tool::DryRepair,
         words: &[DRY_RUN, SHARED, INPUT],
+    },
+    ToolWords {
+        name: "thin_repair",
+        tool: Tool::DrySearch,
+        words: &[DRY_RUN, SHARED, INPUT, TRANSACTION, BLOCK_SIZE, DATA_BLOCKS],
+    },
+    ToolWords {
+        name: "thin_repair",
+        tool: Tool::DryNamed,
+        words: &[
+            DRY_RUN,
+            SHARED,
+            INPUT,
+            MAPPING_ROOT,
+            DETAILS_ROOT,
+            TRANSACTION,
+            BLOCK_SIZE,
+            DATA_BLOCKS,
+        ],
     },
     ToolWords {
         name: "cache_repair",
@@ -340,7 +396,6 @@ fn is_flag_need(need: Need) -> bool
         Need::Mark => true,
         Need::Wanted(_) => false,
         Need::Optional(_) => false,
-        Need::Together(_) => false,
     }
 }
 

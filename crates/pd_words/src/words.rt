@@ -1,25 +1,27 @@
 //! The request that words spell.
 
 ghost use Rattle.std.specs.Prelude.{◌≡◌, ◌<◌, ◌≤◌, ◌+◌, ◌^◌, ℕ, List, Some, true, map, string_bytes, length, IfSome, IfOk};
-ghost use Rattle.std.specs.Option.{option_map};
-ghost use Rattle.pd_answers.specs.Words.{asked, at_most_one, check_with, dump_with, generated_number, given, is_set, meant_if_any, region_of, repair_with, single_value, stage_of, stage_or_last, version_of, version_or_first};
+ghost use Rattle.pd_answers.specs.Words.{asked, check_with, dump_with, generated_number, meant_if_any, region_of, stage_of, stage_or_last, version_of, version_or_first};
 ghost use Rattle.pd_kinds.specs.declared.kind.Stage.TheVariants.{Counts};
 ghost use Rattle.pd_answers.specs.Tools as tools_spec;
 ghost use Rattle.pd_answers.specs.Words as words_spec;
 ghost use Rattle.pd_words.specs.Items.{items_in, AreItems};
 ghost use Rattle.pd_words.specs.Numbers.{region_as};
 ghost use Rattle.pd_words.specs.Table.{tool_as};
-ghost use Rattle.pd_words.specs.Words.{read_as, answer_as, word_of, words_of, AreNames, IsGenerated, IsName, IsNameIfAny, IsPoolSize, IsVersion};
+ghost use Rattle.pd_words.specs.Words.{read_as, answer_as, word_of, words_of, AreNames, IsGenerated, IsName, IsNameIfAny, IsVersion};
 
 use crate::forms::tool_named;
-use crate::items::{Given, are_items_of, given_for};
+use crate::items::are_items_of;
 use crate::numbers::{Region, number, number_up_to, read_region};
+use crate::repairs::{
+    read_dry_named, read_dry_repair, read_dry_search, read_named_repair, read_repair, read_search,
+};
 use crate::request::{Name, Request, WordFault};
 use crate::table::{
-    BLOCK_SIZE, BLOCKS, CLEAR, DATA, DATA_BLOCKS, DRY_RUN, FAST, FILE, IMAGE, INPUT, METADATA,
-    NUMBER, ORIGIN, OUTPUT, PASSING, REGION, SHARED, SINCE, TEXT, TRANSACTION, Tool, UNTIL,
-    VERSION, Word,
+    BLOCKS, CLEAR, DATA, FAST, FILE, IMAGE, INPUT, METADATA, NUMBER, ORIGIN, OUTPUT, PASSING,
+    REGION, SHARED, SINCE, TEXT, Tool, UNTIL, VERSION,
 };
+use crate::values::{flag, optional, required};
 use pd_kinds::{Flagged, Kind, Passing, Stage};
 
 /// The request that the words spell, without the program's own name.
@@ -58,7 +60,11 @@ fn read_request(tool: Tool, words: &[String]) -> Option<Request>
         Tool::Dump(kind) => read_dump(kind, words),
         Tool::Restore(kind) => read_restore(kind, words),
         Tool::Repair => read_repair(words),
+        Tool::Search => read_search(words),
+        Tool::NamedRepair => read_named_repair(words),
         Tool::DryRepair => read_dry_repair(words),
+        Tool::DrySearch => read_dry_search(words),
+        Tool::DryNamed => read_dry_named(words),
         Tool::RepairCache => read_repair_cache(words),
         Tool::ReverseMap => read_rmap(words),
         Tool::DeviceList => read_device_list(words),
@@ -172,77 +178,6 @@ fn read_restore(kind: Kind, words: &[String]) -> Option<Request>
     })
 }
 
-/// What the words ask of a repair.
-#[tactic(auto, unfolding(pd_answers::specs::Words::request_of))]
-fn read_repair(words: &[String]) -> Option<Request>
-    requires { AreItems (map string_bytes words.now) }
-    ensures asked { read_as (map string_bytes words.now) result ≡ words_spec.request_of tools_spec.repair_tool (items_in (map string_bytes words.now)) }
-    ensures names { IfSome result (AreNames (length words.now)) }
-{
-    let shared = flag(words, SHARED)?;
-    let input = required(words, INPUT)?;
-    let output = required(words, OUTPUT)?;
-    let transaction = number_if_any(words, u64::MAX, optional(words, TRANSACTION)?)?;
-    let block_size = number_if_any(words, u32::MAX as u64, optional(words, BLOCK_SIZE)?)?;
-    let blocks = number_if_any(words, 1 << 40, optional(words, DATA_BLOCKS)?)?;
-    repair_with(shared, input, output, transaction, block_size, blocks)
-}
-
-/// A repair: with all three numbers of the superblock that is wanting, or none.
-fn repair_with(
-    shared: bool,
-    input: Name,
-    output: Name,
-    transaction: Option<u64>,
-    block_size: Option<u64>,
-    blocks: Option<u64>,
-) -> Option<Request>
-    requires size { IfSome block_size (λ size. size < 2 ^ 32) }
-    ensures asked { (words : List (List ℕ)) → read_as words result ≡ repair_with shared (word_of words input) (word_of words output) transaction block_size blocks }
-    ensures names { (number : ℕ) → IsName number input → IsName number output → IfSome blocks IsPoolSize → IfSome result (AreNames number) }
-{
-    match transaction {
-        None => match block_size {
-            None => match blocks {
-                None => Some(Request::Repair {
-                    input,
-                    output,
-                    shared,
-                }),
-                Some(_) => None,
-            },
-            Some(_) => None,
-        },
-        Some(transaction) => match block_size {
-            None => None,
-            Some(block_size) => match blocks {
-                None => None,
-                Some(blocks) => Some(Request::Search {
-                    input,
-                    output,
-                    shared,
-                    transaction,
-                    block_size: block_size as u32,
-                    blocks,
-                }),
-            },
-        },
-    }
-}
-
-/// What the words ask of a repair that writes nothing. Whether leaves are shared changes nothing of what is told.
-#[tactic(auto, unfolding(pd_answers::specs::Words::request_of))]
-fn read_dry_repair(words: &[String]) -> Option<Request>
-    requires { AreItems (map string_bytes words.now) }
-    ensures asked { read_as (map string_bytes words.now) result ≡ words_spec.request_of tools_spec.dry_repair_tool (items_in (map string_bytes words.now)) }
-    ensures names { IfSome result (AreNames (length words.now)) }
-{
-    let _dry_run = required(words, DRY_RUN)?;
-    let _shared = flag(words, SHARED)?;
-    let input = required(words, INPUT)?;
-    Some(Request::DryRun { input })
-}
-
 /// What the words ask of a cache's repair.
 #[tactic(auto, unfolding(pd_answers::specs::Words::request_of))]
 fn read_repair_cache(words: &[String]) -> Option<Request>
@@ -258,21 +193,6 @@ fn read_repair_cache(words: &[String]) -> Option<Request>
         output,
         version,
     })
-}
-
-/// The number up to `most` that a word is, if there is a word.
-fn number_if_any(words: &[String], most: u64, name: Option<Name>) -> Option<Option<u64>>
-    requires { IsNameIfAny (length words.now) name }
-    ensures number { result ≡ meant_if_any (tools_spec.below (most + 1)) (words_of (map string_bytes words.now) name) }
-    ensures within { IfSome result (λ read. IfSome read (λ number. number ≤ most)) }
-{
-    match name {
-        None => Some(None),
-        Some(name) => match number_up_to(most, name.word_in(words)) {
-            None => None,
-            Some(number) => Some(Some(number)),
-        },
-    }
 }
 
 /// What the words ask of the reverse map.
@@ -419,43 +339,6 @@ fn generated_number(words: &[String], name: Name) -> Option<u32>
                 Some(number as u32)
             }
         }
-    }
-}
-
-/// The value of an option that is wanted, or the operand.
-fn required(words: &[String], word: Word) -> Option<Name>
-    requires { AreItems (map string_bytes words.now) }
-    ensures value { words_of (map string_bytes words.now) result ≡ single_value (given word.name.now (items_in (map string_bytes words.now))) }
-    ensures within { IsNameIfAny (length words.now) result }
-{
-    match given_for(words, word.name) {
-        Given::Once(value) => Some(value),
-        _ => None,
-    }
-}
-
-/// The value of an option that may be left out.
-fn optional(words: &[String], word: Word) -> Option<Option<Name>>
-    requires { AreItems (map string_bytes words.now) }
-    ensures value { option_map (words_of (map string_bytes words.now)) result ≡ at_most_one (given word.name.now (items_in (map string_bytes words.now))) }
-    ensures within { IfSome result (IsNameIfAny (length words.now)) }
-{
-    match given_for(words, word.name) {
-        Given::Never => Some(None),
-        Given::Once(value) => Some(Some(value)),
-        Given::Often => None,
-    }
-}
-
-/// Whether a flag is set.
-fn flag(words: &[String], word: Word) -> Option<bool>
-    requires { AreItems (map string_bytes words.now) }
-    ensures { result ≡ is_set (given word.name.now (items_in (map string_bytes words.now))) }
-{
-    match given_for(words, word.name) {
-        Given::Never => Some(false),
-        Given::Once(_) => Some(true),
-        Given::Often => None,
     }
 }
 
