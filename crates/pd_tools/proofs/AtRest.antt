@@ -3,14 +3,15 @@ use Rattle.std.proofs.Common.{[], ℕ, Option, Some, None, refl, arith}
 use Rattle.std.specs.Option.{option_map_or}
 use Rattle.pd_kinds.specs.declared.kind.Kind.{Kind}
 use Rattle.pd_kinds.specs.declared.kind.Kind.TheVariants.{Thin, Cache, Era}
-use Rattle.pd_kinds.specs.declared.kind.Stage.TheVariants.{Counts}
+use Rattle.pd_kinds.specs.declared.kind.Stage.TheVariants.{Super, Counts}
 use Rattle.pd_kinds.specs.Flagged.{kind_of}
 use Rattle.pd_kinds.specs.Objects.{SinkState}
 use Rattle.pd_kinds.specs.Report.{report_of}
 use Rattle.pd_kinds.specs.Stages.{faults}
 use Rattle.pd_answers.specs.Answer.{Objects, AreFresh}
-use Rattle.pd_answers.specs.Requests.{Request, check, passing_check, check_and_clear, query, restore, repair, search, repair_cache, generate, rehearse, writeback, shrink}
+use Rattle.pd_answers.specs.Requests.{Request, check, passing_check, check_and_clear, query, restore, repair, search, repair_named, dry_search, repair_cache, generate, rehearse, writeback, shrink}
 use Rattle.pd_answers.specs.CacheRepairs as caches
+use Rattle.pd_answers.specs.NamedRepairs as named
 use Rattle.pd_answers.specs.Repairs as repairs
 use Rattle.pd_answers.specs.Searches as searches
 use Rattle.pd_answers.specs.Shrinks as shrinks
@@ -30,9 +31,10 @@ use Rattle.pd_tools.proofs.CacheRepairs.{cache_repair_rests}
 use Rattle.pd_tools.proofs.Checks.{told}
 use Rattle.pd_tools.proofs.FewReads.{unread}
 use Rattle.pd_tools.proofs.Clears.{clearing_at_rest}
+use Rattle.pd_tools.proofs.NamedRepairs.{dry_search_rests, named_rests}
 use Rattle.pd_tools.proofs.Queries.{query_at_rest}
 use Rattle.pd_tools.proofs.Rehearses.{rehearse_at_rest}
-use Rattle.pd_tools.proofs.Repairs.{repair_rests}
+use Rattle.pd_tools.proofs.Repairs.{repair_rests, repair_statuses}
 use Rattle.pd_tools.proofs.Restores.{restore_at_rest}
 use Rattle.pd_tools.proofs.Searches.{search_rests}
 use Rattle.pd_tools.proofs.Shrinks.{shrink_rests}
@@ -76,7 +78,7 @@ at_rest (Some (restore Cache version file path)) before notes fresh verdicts =
 at_rest (Some (restore Era version file path)) before notes fresh verdicts =
     restore_at_rest IsEraVerdict is_era_early laid_era file path before (record before { notes = notes }) before.source before.output fresh.output.2 (verdicts Era version) fresh.output.0
 at_rest (Some (repair shared from to)) before notes fresh verdicts =
-    task_at_rest (repairs.repair shared from to) before notes (repair_rests shared from to before (record before { notes = notes }) fresh (none_written before notes fresh))
+    task_at_rest (repairs.repair shared from to) before notes (repair_rests (faults Thin Super) repair_statuses shared (repairs.saved_of shared) from to before (record before { notes = notes }) fresh (none_written before notes fresh))
 at_rest (Some (query asked file path)) before notes fresh verdicts = query_at_rest asked before.input.held
 at_rest (Some (generate number file)) before notes fresh verdicts = (tt, tt, tt)
 at_rest (Some (rehearse number path)) before notes fresh verdicts = rehearse_at_rest number path before notes fresh.output.2 (verdicts Thin 1) fresh.output.0
@@ -89,6 +91,10 @@ at_rest (Some (repair_cache version from to)) before notes fresh verdicts =
 at_rest (Some (search shared from to transaction block_size blocks)) before notes fresh verdicts =
     task_at_rest (searches.search shared from to transaction block_size blocks) before notes
     (search_rests shared (record { transaction = transaction; block_size = block_size; blocks = blocks }) from to before (record before { notes = notes }) fresh (none_written before notes fresh))
+at_rest (Some (repair_named shared from to given roots)) before notes fresh verdicts =
+    task_at_rest (named.repair_named shared from to given roots) before notes (named_rests shared given roots from to before (record before { notes = notes }) fresh (none_written before notes fresh))
+at_rest (Some (dry_search path given roots)) before notes fresh verdicts =
+    task_at_rest (named.dry_search path given roots) before notes (dry_search_rests given roots path before (record before { notes = notes }))
 
 -- and nothing was read
 pub reads_at_rest : (request : Option Request) (before : Objects) (notes : SinkState)
@@ -107,4 +113,6 @@ reads_at_rest (Some (rehearse number path)) before notes = tt
 reads_at_rest (Some (writeback metadata fast origin)) before notes = tt
 reads_at_rest (Some (shrink shared input output pool blocks)) before notes = tt
 reads_at_rest (Some (search shared from to transaction block_size blocks)) before notes = tt
+reads_at_rest (Some (repair_named shared from to given named)) before notes = tt
+reads_at_rest (Some (dry_search path given named)) before notes = tt
 reads_at_rest (Some (repair_cache version from to)) before notes = tt

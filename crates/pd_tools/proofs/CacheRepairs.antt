@@ -72,7 +72,7 @@ kept_lost found before after status some left = first_lost _ _ before after stat
 -- before anything was written
 pub cache_repair_rests : (version : Option ℕ) (from to : List ℕ) (before after : Objects) → AreFresh before → AreAlone before after → IsAtRest (repair_cache version from to) before after
 cache_repair_rests version from to before after fresh alone =
-    let rest = saved_at_rest Cache (saved_in version) before after alone in
+    let rest = saved_at_rest (faults Cache Super) (saved_in version) before after alone in
     record {
       finding = rest.0;
       found = rest.1;
@@ -113,8 +113,8 @@ module _ (version : Option ℕ) (from to : List ℕ) (before after : Objects) (o
   told : IfSome opened.input.held (λ image. saved ≡ saved_in version image)
   told = one_told opened.input.held (λ image right. is_saved saved image right.0 right.1) done.right
 
-  found_here : (report : Reported) → IsRightHere report → (out : SinkState) → FindsSaved Cache (saved_in version) before (record after { out = out }) (finding report)
-  found_here report right out = found_right Cache (saved_in version) before after opened both.input.untouched.held both.output.untouched.held measured place saved told result done.rules report right
+  found_here : (report : Reported) → IsRightHere report → (out : SinkState) → FindsSaved (faults Cache Super) (saved_in version) before (record after { out = out }) (finding report)
+  found_here report right out = found_right (faults Cache Super) (saved_in version) before after opened both.input.untouched.held both.output.untouched.held measured place saved told result done.rules report right
 
   -- there is room
   given : content.need room ≤ room → answer (report_of []) ≡ record { status = 0; out = line_of saved; notes = [] }
@@ -156,7 +156,7 @@ module _ (version : Option ℕ) (from to : List ℕ) (before after : Objects) (o
   no_room need blocks is =
       let told_here = told_of (Err (fault.NoRoom need blocks)) is in
       let small : room < content.need room = subst (λ (n : ℕ). room < n) told_here.0 told_here.1.1 in
-      let right = room_right Cache (saved_in version) before after opened both.input.untouched.held both.output.untouched.held measured place saved told result done.rules need blocks is in
+      let right = room_right (faults Cache Super) (saved_in version) before after opened both.input.untouched.held both.output.untouched.held measured place saved told result done.rules need blocks is in
       ended (report_of []) right 4 (no_room_line need blocks) (λ e. omega arith) refl
       (rw (told_here.0, told_here.1.0) (answer_small making_in (λ (s : SavedIn). keeps_line s.cache) saved room small)) (early (Err (fault.NoRoom need blocks)) is tt)
 
@@ -164,7 +164,7 @@ module _ (version : Option ℕ) (from to : List ℕ) (before after : Objects) (o
       → IsEnded terms before after 1 (reported_lines (report_of (faults_at 0 (has_rule rules))))
   faulty rules is named =
       let report = report_of (faults_at 0 (has_rule rules)) in
-      let right = faulty_right Cache (saved_in version) before after opened both.input.untouched.held both.output.untouched.held measured place saved told result done.rules rules is in
+      let right = faulty_right (faults Cache Super) (saved_in version) before after opened both.input.untouched.held both.output.untouched.held measured place saved told result done.rules rules is in
       ended report right 1 (reported_lines report) (λ e. omega arith) refl
       (answer_faulty making_in (λ (s : SavedIn). keeps_line s.cache) saved room report (named_total rules named)) (early (Err (fault.NoSuper rules)) is tt)
 
@@ -172,15 +172,15 @@ module _ (version : Option ℕ) (from to : List ℕ) (before after : Objects) (o
   pub cache_unrepaired : (f : RepairFault) → result ≡ Err f → NamesRules f → BlamesOne f opened.input.faults after.input.faults opened.output.faults after.output.faults
       → Works terms before after (repair_ended (Err f))
   cache_unrepaired fault.Memory is named counts =
-      let right = memory_right Cache (saved_in version) before after opened both.input.untouched.held both.output.untouched.held measured place saved told result done.rules is in
-      let none = memory_told Cache (saved_in version) before after opened both.input.untouched.held both.output.untouched.held measured place saved told result done.rules is in
+      let right = memory_right (faults Cache Super) (saved_in version) before after opened both.input.untouched.held both.output.untouched.held measured place saved told result done.rules is in
+      let none = memory_told (faults Cache Super) (saved_in version) before after opened both.input.untouched.held both.output.untouched.held measured place saved told result done.rules is in
       halted (report_of []) right Memory refl none
       (first_lacking before after opened.output fresh both.output.untouched unput content (output_ending result) done.output (answer (report_of [])) zero_if (rw is tt))
   cache_unrepaired fault.Input is named counts =
-      halted (report_in Cache before.input.held) (report-told Cache before.input.held) Device refl (inl (rw both.input.faults at counts.0.0))
-      (alone (early (Err fault.Input) is tt) (report_in Cache before.input.held) 5 (λ e. omega arith))
+      halted (report_in (faults Cache Super) before.input.held) (report-told (faults Cache Super) before.input.held) Device refl (inl (rw both.input.faults at counts.0.0))
+      (alone (early (Err fault.Input) is tt) (report_in (faults Cache Super) before.input.held) 5 (λ e. omega arith))
   cache_unrepaired fault.Output is named counts =
-      let right = output_right Cache (saved_in version) before after opened both.input.untouched.held both.output.untouched.held measured place saved told result done.rules is in
+      let right = output_right (faults Cache Super) (saved_in version) before after opened both.input.untouched.held both.output.untouched.held measured place saved told result done.rules is in
       let risen : Rose before.output.faults after.output.faults = rw both.output.faults at counts.1.0 in
       halted (report_of []) right Device refl (inr (inl risen))
       (first_failed before after opened.output fresh both.output.untouched unput content (output_ending result) done.output (answer (report_of [])) zero_if risen)
@@ -197,7 +197,7 @@ module _ (version : Option ℕ) (from to : List ℕ) (before after : Objects) (o
   cache_repaired kept is =
       let kept_is = subst (λ (r : Result KeptCache RepairFault). IfOk r (λ k. IsKept k done.cache)) is done.kept in
       let answer_is = given (told_of (Ok kept) is).1 ∙ ap (λ (line : List ℕ). record { status = 0; out = line; notes = [] }) (line_is kept kept_is) in
-      let right = done_right Cache (saved_in version) before after opened both.input.untouched.held both.output.untouched.held measured place saved told result done.rules kept is in
+      let right = done_right (faults Cache Super) (saved_in version) before after opened both.input.untouched.held both.output.untouched.held measured place saved told result done.rules kept is in
       record {
         finding = finding (report_of []);
         found = found_here (report_of []) right;

@@ -15,5 +15,6 @@ pub mod Repairs
 pub mod CacheRepairs
 pub mod BestRoots
 pub mod Searches
+pub mod NamedRepairs
 pub mod Writebacks
 pub mod Shrinks

@@ -6,9 +6,6 @@ use Rattle.std.proofs.lemmas.Bool.{lt-ltb, le-ltb}
 use Rattle.std.proofs.lemmas.Option.{IfSome_then}
 use Rattle.std.proofs.Math.Dec.{eqb-suc-zero}
 use Rattle.pd_kinds.specs.declared.fault.Fault.{Fault}
-use Rattle.pd_kinds.specs.declared.kind.Kind.{Kind}
-use Rattle.pd_kinds.specs.declared.kind.Kind.TheVariants.{Thin}
-use Rattle.pd_kinds.specs.declared.kind.Stage.TheVariants.{Super}
 use Rattle.pd_kinds.specs.declared.rule.Rule.{Rule}
 use Rattle.pd_kinds.specs.declared.rules.Rules.{Rules}
 use Rattle.pd_kinds.specs.Objects.{DeviceState, Rose}
@@ -17,18 +14,17 @@ use Rattle.pd_kinds.specs.Faults.{faults_at}
 use Rattle.pd_kinds.specs.Limits.{room_of}
 use Rattle.pd_kinds.specs.Report.{Reported, report_of}
 use Rattle.pd_kinds.specs.RuleSet.{has_rule}
-use Rattle.pd_kinds.specs.Stages.{faults}
 use Rattle.pd_laws.proofs.CleanLemmas.{no_rule_broken}
 use Rattle.pd_spells.specs.Lines.{no_room_line, reported_lines}
 use Rattle.pd_image.specs.Device.{KeepsPlace}
 use Rattle.pd_answers.specs.Answer.{Answer, AreFresh, Objects}
 use Rattle.pd_answers.specs.Makings.{Lays, Making}
-use Rattle.pd_answers.specs.Repairs.{FindsSaved, LeavesRepaired, Salvaged, Saved, repair, repair_answer, saved_answer, saved_making, saved_of}
-use Rattle.pd_answers.specs.Terms.{Terms, is_possible}
+use Rattle.pd_answers.specs.Repairs.{FindsSaved, LeavesRepaired, Salvaged, Saved, repair_answer, repair_by, saved_answer, saved_making}
+use Rattle.pd_answers.specs.Terms.{Terms, is_one_of, is_possible}
 use Rattle.pd_repair.specs.declared.fault.RepairFault.{RepairFault}
 use Rattle.pd_repair.specs.declared.fault.RepairFault.TheVariants as fault
 use Rattle.pd_repair.specs.Faults.{output_ending}
-use Rattle.pd_repair.specs.Repaired.{AnswersSuper, CountsRepair, IsRepairedAs, NamesRules}
+use Rattle.pd_repair.specs.Repaired.{AnswersSuper, CountsRepair, IsRepairedBy, NamesRules}
 use Rattle.pd_restoring.specs.Made.{AnswersEnding, Ending, IsEarly, IsOfOthers}
 use Rattle.pd_tools.specs.declared.stop.Stop.{Stop}
 use Rattle.pd_tools.specs.declared.stop.Stop.TheVariants.{Device, Memory}
@@ -46,13 +42,13 @@ use Rattle.pd_tools.proofs.Rooms.{blocks_of, has_room, room_at_rest}
 use Rattle.pd_tools.proofs.Tasks.{and_same}
 
 -- what is found in what the input tells
-pub report_in : Kind → Option Image → Reported
-report_in kind held = option_map_or (λ (image : Image). report_of (faults kind Super image)) held (report_of [])
+pub report_in : (Image → List Fault) → Option Image → Reported
+report_in broken held = option_map_or (λ (image : Image). report_of (broken image)) held (report_of [])
 
-pub report-told : (kind : Kind) (held : Option Image) → IfSome held (λ image. report_in kind held ≡ report_of (faults kind Super image))
+pub report-told : (broken : Image → List Fault) (held : Option Image) → IfSome held (λ image. report_in broken held ≡ report_of (broken image))
 unfolding report_in
-report-told kind None = tt
-report-told kind (Some image) = refl
+report-told broken None = tt
+report-told broken (Some image) = refl
 
 saved_in : {S : Type 0} → (Image → S) → Option Image → S
 saved_in all_of held = option_map_or all_of held (all_of [])
@@ -84,12 +80,12 @@ module _ {S : Type 0} (making : S → Making) (line : S → List ℕ) (saved : S
   answer_faulty report faulty = rw faulty refl
 
 -- before anything was written
-pub saved_at_rest : {S : Type 0} (kind : Kind) (all_of : Image → S) (before after : Objects) → AreAlone before after → (found : Salvaged S) × FindsSaved kind all_of before after found
-saved_at_rest kind all_of before after alone = (
-  found_of (report_in kind before.input.held) (saved_in all_of before.input.held) (room_of (blocks_of before.output after.output)),
+pub saved_at_rest : {S : Type 0} (broken : Image → List Fault) (all_of : Image → S) (before after : Objects) → AreAlone before after → (found : Salvaged S) × FindsSaved broken all_of before after found
+saved_at_rest broken all_of before after alone = (
+  found_of (report_in broken before.input.held) (saved_in all_of before.input.held) (room_of (blocks_of before.output after.output)),
   (
     room_at_rest before.output after.output alone.output.held alone.output_measured,
-    two_told before.input.held (λ image report saved. (report, saved)) (report-told kind before.input.held) (saved-told all_of before.input.held),
+    two_told before.input.held (λ image report saved. (report, saved)) (report-told broken before.input.held) (saved-told all_of before.input.held),
   ),
 )
 
@@ -98,36 +94,36 @@ pub of_ending : {T : Type 0} (P : Ending → Type 0) (result known : Result T Re
 of_ending {T} P result known is all = subst (λ (r : Result T RepairFault). P (output_ending r)) is all
 
 -- an output over which what was saved is written, and what the faults of the superblock are answered by
-module _ {S T : Type 0} (kind : Kind) (all_of : Image → S) (before after : Objects) (opened : Devices)
+module _ {S T : Type 0} (broken : Image → List Fault) (all_of : Image → S) (before after : Objects) (opened : Devices)
     (input_held : opened.input.held ≡ before.input.held) (output_held : opened.output.held ≡ before.output.held)
     (measured : IfSome opened.output.held (λ image. length image ≡ opened.output.blocks)) (place : KeepsPlace opened.output after.output)
     (saved : S) (told : IfSome opened.input.held (λ image. saved ≡ all_of image))
-    (result : Result T RepairFault) (rules : IfSome opened.input.held (λ image. AnswersSuper result (faults kind Super image))) where
+    (result : Result T RepairFault) (rules : IfSome opened.input.held (λ image. AnswersSuper result (broken image))) where
   abbrev IsRight : Reported → Type 0
-  IsRight report = IfSome before.input.held (λ image. report ≡ report_of (faults kind Super image))
+  IsRight report = IfSome before.input.held (λ image. report ≡ report_of (broken image))
 
   -- what was found is right
-  pub found_right : (report : Reported) → IsRight report → FindsSaved kind all_of before after (found_of report saved (room_of opened.output.blocks))
+  pub found_right : (report : Reported) → IsRight report → FindsSaved broken all_of before after (found_of report saved (room_of opened.output.blocks))
   found_right report right = (
     has_room before.output opened.output after.output (room_of opened.output.blocks) refl output_held measured place.blocks,
     two_told before.input.held (λ image is all. (is, all)) right (subst (λ (h : Option Image). IfSome h (λ image. saved ≡ all_of image)) input_held told),
   )
 
   -- what the faults of the superblock are answered by
-  of_super : (P : List Fault → Type 0) → IfSome opened.input.held (λ image. P (faults kind Super image)) → IfSome before.input.held (λ image. P (faults kind Super image))
-  of_super P here = subst (λ (h : Option Image). IfSome h (λ image. P (faults kind Super image))) input_held here
+  of_super : (P : List Fault → Type 0) → IfSome opened.input.held (λ image. P (broken image)) → IfSome before.input.held (λ image. P (broken image))
+  of_super P here = subst (λ (h : Option Image). IfSome h (λ image. P (broken image))) input_held here
 
-  answered_by : (r : Result T RepairFault) → result ≡ r → IfSome before.input.held (λ image. AnswersSuper r (faults kind Super image))
-  answered_by r is = of_super (λ list. AnswersSuper r list) (subst (λ (s : Result T RepairFault). IfSome opened.input.held (λ image. AnswersSuper s (faults kind Super image))) is rules)
+  answered_by : (r : Result T RepairFault) → result ≡ r → IfSome before.input.held (λ image. AnswersSuper r (broken image))
+  answered_by r is = of_super (λ list. AnswersSuper r list) (subst (λ (s : Result T RepairFault). IfSome opened.input.held (λ image. AnswersSuper s (broken image))) is rules)
 
   -- there are none
-  none_right : IfSome before.input.held (λ image. faults kind Super image ≡ []) → IsRight (report_of [])
+  none_right : IfSome before.input.held (λ image. broken image ≡ []) → IsRight (report_of [])
   none_right none = IfSome_then before.input.held none (λ image is. ap (λ (list : List Fault). report_of list) (sym is))
 
   pub done_right : (answer : T) → result ≡ Ok answer → IsRight (report_of [])
   done_right answer is = none_right (answered_by (Ok answer) is)
 
-  pub memory_told : result ≡ Err fault.Memory → IfSome before.input.held (λ image. faults kind Super image ≡ [])
+  pub memory_told : result ≡ Err fault.Memory → IfSome before.input.held (λ image. broken image ≡ [])
   memory_told is = answered_by (Err fault.Memory) is
 
   pub memory_right : result ≡ Err fault.Memory → IsRight (report_of [])
@@ -164,23 +160,37 @@ repaired_lost shared found status output last some left = record {
 }
 
 -- before anything was written
-pub repair_rests : (shared : Bool) (from to : List ℕ) (before after : Objects) → AreFresh before → AreAlone before after → IsAtRest (repair shared from to) before after
-repair_rests shared from to before after fresh alone =
-    let rest = saved_at_rest Thin (saved_of shared) before after alone in
+pub repair_rests : (broken : Image → List Fault) (statuses : List ℕ) (shared : Bool) (all_of : Image → Saved shared) (from to : List ℕ) (before after : Objects) → AreFresh before → AreAlone before after
+    → IsAtRest (repair_by broken statuses shared all_of from to) before after
+repair_rests broken statuses shared all_of from to before after fresh alone =
+    let rest = saved_at_rest broken all_of before after alone in
     record {
       finding = rest.0;
       found = rest.1;
       leaves = λ status some. left_alone shared rest.0 status before.output after.output fresh.output.2 alone.output some;
     }
 
-module _ (shared : Bool) (from to : List ℕ) (before after : Objects) (opened : Devices) (fresh : AreFresh before) (both : AreOpened (repair shared from to).uses (devices_of before) opened)
+-- the statuses of a repair that looks at the superblock
+abbrev pub repair_statuses : List ℕ
+repair_statuses = 0 ∷ 1 ∷ 4 ∷ 5 ∷ 7 ∷ []
+
+-- those that come of each repair
+pub record AreRepairs (statuses : List ℕ) : Type 0 where
+  pub done : IsTrue (is_one_of statuses 0)
+  pub no_room : IsTrue (is_one_of statuses 4)
+  pub failed : IsTrue (is_one_of statuses 5)
+  pub wanting : IsTrue (is_one_of statuses 7)
+
+module _ (broken : Image → List Fault) (statuses : List ℕ) (can : AreRepairs statuses) (shared : Bool) (all_of : Image → Saved shared) (from to : List ℕ) (before after : Objects) (opened : Devices)
+    (fresh : AreFresh before) (both : AreOpened (repair_by broken statuses shared all_of from to).uses (devices_of before) opened)
     (measured : IfSome opened.output.held (λ image. length image ≡ opened.output.blocks)) (place : KeepsPlace opened.output after.output)
-    (result : Result (Unit {0}) RepairFault) (done : IsRepairedAs (saved_content shared) (saved_of shared) result opened.input opened.output after.output) where
+    (result : Result (Unit {0}) RepairFault) (done : IsRepairedBy broken (saved_content shared) all_of result opened.input opened.output after.output)
+    (refused : (rules : Rules) → result ≡ Err (fault.NoSuper rules) → IsTrue (is_one_of statuses 1)) where
   abbrev room : ℕ
   room = room_of opened.output.blocks
 
   abbrev terms : Terms
-  terms = repair shared from to
+  terms = repair_by broken statuses shared all_of from to
 
   abbrev making : Making
   making = saved_making shared done.pool
@@ -193,14 +203,14 @@ module _ (shared : Bool) (from to : List ℕ) (before after : Objects) (opened :
 
   -- what is right to report
   abbrev IsRightHere : Reported → Type 0
-  IsRightHere report = IfSome before.input.held (λ image. report ≡ report_of (faults Thin Super image))
+  IsRightHere report = IfSome before.input.held (λ image. report ≡ report_of (broken image))
 
   -- what is left of the output
   abbrev Leaves : Reported → ℕ → Type 0
   Leaves report status = LeavesRepaired (saved_making shared) (finding report) status before.output after.output
 
-  found_here : (report : Reported) → IsRightHere report → FindsSaved Thin (saved_of shared) before after (finding report)
-  found_here = found_right Thin (saved_of shared) before after opened both.input.untouched.held both.output.untouched.held measured place done.pool done.right result done.rules
+  found_here : (report : Reported) → IsRightHere report → FindsSaved broken all_of before after (finding report)
+  found_here = found_right broken all_of before after opened both.input.untouched.held both.output.untouched.held measured place done.pool done.right result done.rules
 
   -- an output that the repair left alone
   alone : IsUntouched opened.output after.output → (report : Reported) (status : ℕ) → status ≢ 0 → Leaves report status
@@ -238,8 +248,8 @@ module _ (shared : Bool) (from to : List ℕ) (before after : Objects) (opened :
   repair_made is =
       let told = of_ending (λ ending. AnswersEnding ending (saved_content shared done.pool) room) result (Ok tt) is done.output.answer in
       let given = answer_made (saved_making shared) (λ _. []) done.pool room told.1 in
-      let right = done_right Thin (saved_of shared) before after opened both.input.untouched.held both.output.untouched.held measured place done.pool done.right result done.rules tt is in
-      ended (report_of []) right 0 [] refl given
+      let right = done_right broken all_of before after opened both.input.untouched.held both.output.untouched.held measured place done.pool done.right result done.rules tt is in
+      ended (report_of []) right 0 [] can.done given
       (record {
         output = record {
           made = laid_leaves before.output opened.output after.output fresh.output.2 both.output.untouched (saved_content shared done.pool) (output_ending result) done.output (answer (report_of []))
@@ -253,38 +263,38 @@ module _ (shared : Bool) (from to : List ℕ) (before after : Objects) (opened :
   repair_no_room need blocks is =
       let told = of_ending (λ ending. AnswersEnding ending (saved_content shared done.pool) room) result (Err (fault.NoRoom need blocks)) is done.output.answer in
       let small : room < making.need room = subst (λ (n : ℕ). room < n) told.0 told.1.1 in
-      let right = room_right Thin (saved_of shared) before after opened both.input.untouched.held both.output.untouched.held measured place done.pool done.right result done.rules need blocks is in
-      ended (report_of []) right 4 (no_room_line need blocks) refl
+      let right = room_right broken all_of before after opened both.input.untouched.held both.output.untouched.held measured place done.pool done.right result done.rules need blocks is in
+      ended (report_of []) right 4 (no_room_line need blocks) can.no_room
       (rw (told.0, told.1.0) (answer_small (saved_making shared) (λ _. []) done.pool room small)) (alone (early (Err (fault.NoRoom need blocks)) is tt) (report_of []) 4 (λ e. omega arith))
 
   repair_faulty : (rules : Rules) → result ≡ Err (fault.NoSuper rules) → (((rule : Rule) → has_rule rules rule ≡ false) → ⊥)
       → IsEnded terms before after 1 (reported_lines (report_of (faults_at 0 (has_rule rules))))
   repair_faulty rules is named =
       let report = report_of (faults_at 0 (has_rule rules)) in
-      let right = faulty_right Thin (saved_of shared) before after opened both.input.untouched.held both.output.untouched.held measured place done.pool done.right result done.rules rules is in
-      ended report right 1 (reported_lines report) refl (answer_faulty (saved_making shared) (λ _. []) done.pool room report (named_total rules named))
+      let right = faulty_right broken all_of before after opened both.input.untouched.held both.output.untouched.held measured place done.pool done.right result done.rules rules is in
+      ended report right 1 (reported_lines report) (refused rules is) (answer_faulty (saved_making shared) (λ _. []) done.pool room report (named_total rules named))
       (alone (early (Err (fault.NoSuper rules)) is tt) report 1 (λ e. omega arith))
 
   repair_memory : result ≡ Err fault.Memory → IsHalted terms before after Memory
   repair_memory is =
-      let right = memory_right Thin (saved_of shared) before after opened both.input.untouched.held both.output.untouched.held measured place done.pool done.right result done.rules is in
-      let none = memory_told Thin (saved_of shared) before after opened both.input.untouched.held both.output.untouched.held measured place done.pool done.right result done.rules is in
+      let right = memory_right broken all_of before after opened both.input.untouched.held both.output.untouched.held measured place done.pool done.right result done.rules is in
+      let none = memory_told broken all_of before after opened both.input.untouched.held both.output.untouched.held measured place done.pool done.right result done.rules is in
       let kept = laid_kept before.output opened.output after.output fresh.output.2 both.output.untouched (saved_content shared done.pool) (output_ending result) done.output (answer (report_of []))
       (of_ending (λ ending. IsOfOthers ending) (Err fault.Memory) result (sym is) tt) in
-      halted (report_of []) right Memory refl none (either_way (λ _. kept) 7 (λ e. absurd (omega arith)) (λ e. omega arith) (λ e. omega arith) (λ e. omega arith))
+      halted (report_of []) right Memory can.wanting none (either_way (λ _. kept) 7 (λ e. absurd (omega arith)) (λ e. omega arith) (λ e. omega arith) (λ e. omega arith))
 
   repair_output : result ≡ Err fault.Output → Rose opened.output.faults after.output.faults → IsHalted terms before after Device
   repair_output is rose =
-      let right = output_right Thin (saved_of shared) before after opened both.input.untouched.held both.output.untouched.held measured place done.pool done.right result done.rules is in
+      let right = output_right broken all_of before after opened both.input.untouched.held both.output.untouched.held measured place done.pool done.right result done.rules is in
       let risen : Rose before.output.faults after.output.faults = rw both.output.faults at rose in
       let never : after.output.faults ≡ before.output.faults → ⊥ = λ same. not_risen before.output.faults after.output.faults fresh.output.1 same risen in
-      halted (report_of []) right Device refl (inr (inl risen))
+      halted (report_of []) right Device can.failed (inr (inl risen))
       (either_way (λ same. absurd (never same)) 5 (λ _ same. absurd (never same)) (λ e. omega arith) (λ e. omega arith) (λ e. omega arith))
 
   repair_input : result ≡ Err fault.Input → Rose opened.input.faults after.input.faults → IsHalted terms before after Device
   repair_input is rose =
-      halted (report_in Thin before.input.held) (report-told Thin before.input.held) Device refl (inl (rw both.input.faults at rose))
-      (alone (early (Err fault.Input) is tt) (report_in Thin before.input.held) 5 (λ e. omega arith))
+      halted (report_in broken before.input.held) (report-told broken before.input.held) Device can.failed (inl (rw both.input.faults at rose))
+      (alone (early (Err fault.Input) is tt) (report_in broken before.input.held) 5 (λ e. omega arith))
 
   -- whatever its result
   works_by : (r : Result (Unit {0}) RepairFault) → result ≡ r → IfErr r NamesRules

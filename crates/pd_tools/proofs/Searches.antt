@@ -25,7 +25,7 @@ use Rattle.pd_repair.specs.Faults.{output_ending}
 use Rattle.pd_repair.specs.Repaired.{BlamesOne, IsOther, IsRepairedFromAs}
 use Rattle.pd_restoring.specs.Made.{AnswersEnding, Content, IsEarly, IsDone as IsMadeDone}
 use Rattle.pd_scan.specs.Roots.{lost_fields}
-use Rattle.pd_tools.specs.declared.search.Given.{Given}
+use Rattle.pd_words.specs.declared.request.GivenSuper.{GivenSuper}
 use Rattle.pd_tools.specs.declared.stop.Stop.{Stop}
 use Rattle.pd_tools.specs.declared.stop.Stop.TheVariants.{Device, Memory}
 use Rattle.pd_tools.specs.Ending.{repair_ended}
@@ -44,28 +44,28 @@ use Rattle.pd_tools.proofs.Rooms.{blocks_of, has_room, room_at_rest}
 use Rattle.pd_tools.proofs.Tasks.{halted_at_rest, read_alone, read_by}
 
 -- what is right to find in what is told
-abbrev pub IsRight : (shared : Bool) → Given → Option Image → Option FoundRoots → Saved shared → Type 0
+abbrev pub IsRight : (shared : Bool) → GivenSuper → Option Image → Option FoundRoots → Saved shared → Type 0
 IsRight shared given held roots saved = IfSome held (λ image. IsFound (lost_graph image given.blocks) image roots
     × IfSome roots (λ r. saved ≡ saved_from shared (lost_graph image given.blocks) image given.transaction given.block_size r))
 
 -- what is saved from roots, if there are any
-saved_at : (shared : Bool) → Given → Image → Option FoundRoots → Saved shared
+saved_at : (shared : Bool) → GivenSuper → Image → Option FoundRoots → Saved shared
 saved_at shared given image roots =
     option_map_or (λ (r : FoundRoots). saved_from shared (lost_graph image given.blocks) image given.transaction given.block_size r) roots (saved_of shared image)
 
-saved-told : (shared : Bool) (given : Given) (image : Image) (roots : Option FoundRoots)
+saved-told : (shared : Bool) (given : GivenSuper) (image : Image) (roots : Option FoundRoots)
     → IfSome roots (λ r. saved_at shared given image roots ≡ saved_from shared (lost_graph image given.blocks) image given.transaction given.block_size r)
 unfolding saved_at
 saved-told shared given image None = tt
 saved-told shared given image (Some roots) = refl
 
 -- there is something right to find, whatever is told
-record IsMeant (shared : Bool) (given : Given) (held : Option Image) : Type 0 where
+record IsMeant (shared : Bool) (given : GivenSuper) (held : Option Image) : Type 0 where
   roots : Option FoundRoots
   saved : Saved shared
   right : IsRight shared given held roots saved
 
-meant : (shared : Bool) (given : Given) (held : Option Image) → IsMeant shared given held
+meant : (shared : Bool) (given : GivenSuper) (held : Option Image) → IsMeant shared given held
 meant shared given None = record { roots = None; saved = saved_of shared []; right = tt }
 meant shared given (Some image) =
     let best = best_roots image given.blocks in
@@ -96,7 +96,7 @@ pub found_lost : (shared : Bool) (found : Searched (Saved shared)) (before after
 found_lost shared found before after status some left = first_lost _ _ before after status some left
 
 -- before anything was written
-pub search_rests : (shared : Bool) (given : Given) (from to : List ℕ) (before after : Objects) → AreFresh before → AreAlone before after
+pub search_rests : (shared : Bool) (given : GivenSuper) (from to : List ℕ) (before after : Objects) → AreFresh before → AreAlone before after
     → IsAtRest (terms_of_search shared given from to) before after
 search_rests shared given from to before after fresh alone =
     let m = meant shared given before.input.held in
@@ -107,7 +107,7 @@ search_rests shared given from to before after fresh alone =
     }
 
 -- devices that were attached, and of which the input was read
-module _ (shared : Bool) (given : Given) (from to : List ℕ) (before : Objects) (opened : Devices) (notes : SinkState) (last_input : DeviceState) (fresh : AreFresh before)
+module _ (shared : Bool) (given : GivenSuper) (from to : List ℕ) (before : Objects) (opened : Devices) (notes : SinkState) (last_input : DeviceState) (fresh : AreFresh before)
     (both : AreOpened (terms_of_search shared given from to).uses (devices_of before) opened)
     (measured : IfSome opened.output.held (λ image. length image ≡ opened.output.blocks)) (third : IsMeasured opened.third) (reads : OnlyReads opened.input last_input) where
   abbrev read_after : Objects
@@ -170,7 +170,7 @@ saved_whole : AreSavedWhole → (shared : Bool) (image : Image) (data_blocks tra
 saved_whole whole false image data_blocks transaction block_size roots bytes fitting = whole image data_blocks transaction block_size roots bytes fitting
 saved_whole whole true image data_blocks transaction block_size roots bytes fitting = shape_found image data_blocks transaction block_size roots
 
-saved_found : AreSavedWhole → (shared : Bool) (given : Given) (roots : FoundRoots) (blocks : ℕ) (saved : Saved shared) (image : Image) → HasBytes image → length image ≡ blocks
+saved_found : AreSavedWhole → (shared : Bool) (given : GivenSuper) (roots : FoundRoots) (blocks : ℕ) (saved : Saved shared) (image : Image) → HasBytes image → length image ≡ blocks
     → AreBest (lost_graph image given.blocks) image roots
     → saved ≡ saved_by shared (lost_fields roots given.transaction given.block_size (min blocks MAX_META_BLOCKS) given.blocks) image
     → saved ≡ saved_from shared (lost_graph image given.blocks) image given.transaction given.block_size roots
@@ -180,7 +180,7 @@ saved_found whole shared given roots blocks saved image bytes number best is =
     ∙ saved_whole whole shared image given.blocks given.transaction given.block_size roots bytes best.fitting
 
 -- devices that were attached, and roots that were found
-module _ (shared : Bool) (given : Given) (from to : List ℕ) (before after : Objects) (opened : Devices) (fresh : AreFresh before) (unput : after.out ≡ before.out)
+module _ (shared : Bool) (given : GivenSuper) (from to : List ℕ) (before after : Objects) (opened : Devices) (fresh : AreFresh before) (unput : after.out ≡ before.out)
     (both : AreOpened (terms_of_search shared given from to).uses (devices_of before) opened)
     (measured : IfSome opened.output.held (λ image. length image ≡ opened.output.blocks)) (place : KeepsPlace opened.output after.output)
     (whole : AreSavedWhole) (bytes : IfSome opened.input.held HasBytes) (number : IfSome opened.input.held (λ image. length image ≡ opened.input.blocks))

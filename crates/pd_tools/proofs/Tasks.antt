@@ -7,10 +7,11 @@ use Rattle.pd_kinds.specs.Crash.{IsUntouched}
 use Rattle.pd_kinds.specs.Stages.{CanWantMemory}
 use Rattle.pd_answers.specs.Answer.{Answer, AreFresh, IsNamed, IsOpen, IsUsed, Objects, Use, unused, reading, writing}
 use Rattle.pd_answers.specs.Terms.{AreOpen, Changes, IsKept, Terms, Uses, is_possible}
+use Rattle.pd_kept.specs.States.{looked_text}
 use Rattle.pd_tools.specs.declared.ending.Ending.{Ending}
 use Rattle.pd_tools.specs.declared.ending.Ending.TheVariants.{Done, Faulty, Refused, NoRoom, BlockSize, NoRoots}
 use Rattle.pd_tools.specs.declared.ending.Outcome.{Outcome}
-use Rattle.pd_tools.specs.declared.ending.Outcome.TheVariants.{Line, Ended}
+use Rattle.pd_tools.specs.declared.ending.Outcome.TheVariants.{Line, Told, Ended}
 use Rattle.pd_tools.specs.declared.stop.Stop.{Stop}
 use Rattle.pd_tools.specs.declared.stop.Stop.TheVariants.{Device, Stream, Memory}
 use Rattle.pd_tools.specs.Ending.{ending_line, ending_status}
@@ -237,5 +238,6 @@ module _ (terms : Terms) (before after : Objects) (opened : Devices) (none : ter
   pub ends : (worked : Result Outcome Stop) (result : Result Ending Stop) (out : SinkState) → after.out ≡ before.out → Works terms before after worked
       → PutsOutcome worked result before.out out → Ends terms before (record after { out = out }) result
   ends (Ok (Line line)) result out unput works puts = done line out works result puts
+  ends (Ok (Told looked)) result out unput works puts = done (looked_text looked) out works result puts
   ends (Ok (Ended ending)) result out unput works puts = rw (puts.0, puts.1 ∙ sym unput) (ended unput ending works)
   ends (Err stop) result out unput works puts = rw (puts.0, puts.1 ∙ sym unput) (halted unput stop works)

@@ -11,5 +11,6 @@ pub mod Rehearse
 pub mod Saved
 pub mod CacheRepair
 pub mod Search
+pub mod Named
 pub mod Shrink
 pub mod Ending

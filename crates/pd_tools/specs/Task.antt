@@ -4,10 +4,11 @@ use Rattle.pd_kinds.specs.Objects.{Appends, AppendsFront, DeviceState, Rose, Sin
 use Rattle.pd_kinds.specs.Crash.{IsUntouched}
 use Rattle.pd_answers.specs.Answer.{IsOpen, IsUsed, Objects, reading}
 use Rattle.pd_answers.specs.Terms.{Terms, is_one_of, is_possible}
+use Rattle.pd_kept.specs.States.{looked_text}
 use Rattle.pd_tools.specs.declared.ending.Ending.{Ending}
 use Rattle.pd_tools.specs.declared.ending.Ending.TheVariants.{Done}
 use Rattle.pd_tools.specs.declared.ending.Outcome.{Outcome}
-use Rattle.pd_tools.specs.declared.ending.Outcome.TheVariants.{Line, Ended}
+use Rattle.pd_tools.specs.declared.ending.Outcome.TheVariants.{Line, Told, Ended}
 use Rattle.pd_tools.specs.declared.stop.Stop.{Stop}
 use Rattle.pd_tools.specs.declared.stop.Stop.TheVariants.{Stream}
 use Rattle.pd_tools.specs.Ending.{ending_line, ending_status}
@@ -70,6 +71,7 @@ pub record IsHalted (terms : Terms) (before after : Objects) (stop : Stop) : Typ
 -- what the work of a task comes to, while `out` is left alone
 abbrev pub Works : Terms → Objects → Objects → Result Outcome Stop → Type 0
 Works terms before after (Ok (Line line)) = IsDone terms before after line
+Works terms before after (Ok (Told looked)) = IsDone terms before after (looked_text looked)
 Works terms before after (Ok (Ended ending)) = IsEnded terms before after (ending_status ending) (ending_line ending)
 Works terms before after (Err stop) = IsHalted terms before after stop
 
@@ -88,5 +90,6 @@ pub record PutsLast (line : List ℕ) (result : Result Ending Stop) (old new : S
 -- how the line of some work was put, if there is one
 abbrev pub PutsOutcome : Result Outcome Stop → Result Ending Stop → SinkState → SinkState → Type 0
 PutsOutcome (Ok (Line line)) result old new = PutsLast line result old new
+PutsOutcome (Ok (Told looked)) result old new = PutsLast (looked_text looked) result old new
 PutsOutcome (Ok (Ended ending)) result old new = (result ≡ Ok ending) × (new ≡ old)
 PutsOutcome (Err stop) result old new = (result ≡ Err stop) × (new ≡ old)

@@ -9,6 +9,7 @@ use crate::query::put_faults;
 use crate::refusals::{no_room_line, refusal_line};
 use crate::stop::Stop;
 use pd_image::Sink;
+use pd_kept::Looked;
 use pd_kinds::Report;
 use pd_lines::LineBuffer;
 use pd_texts::TextFault;
@@ -35,6 +36,8 @@ pub enum Ending {
 pub(crate) enum Outcome {
     /// It was done, and this line is to be put.
     Line(LineBuffer),
+    /// It was done, and this is to be told.
+    Told(Looked),
     /// It has no line for `out`.
     Ended(Ending),
 }

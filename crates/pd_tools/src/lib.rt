@@ -4,8 +4,10 @@
 mod cache_repair;
 mod check;
 mod clear;
+mod dry_search;
 mod ending;
 mod generate;
+mod named;
 mod notes;
 mod opening;
 mod query;

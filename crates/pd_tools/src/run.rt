@@ -12,19 +12,21 @@ ghost use Rattle.pd_tools.specs.Work.{AnswersTerms};
 use crate::cache_repair::CacheRepair;
 use crate::check::run_check;
 use crate::clear::run_clearing_check;
+use crate::dry_search::DrySearch;
 use crate::generate::run_generate;
+use crate::named::NamedRepair;
 use crate::notes::{USAGE_LINE, put_line};
 use crate::query::run_query;
 use crate::rehearse::run_rehearse;
 use crate::repair::Repair;
 use crate::restore::{run_restore, texts_have_verdicts};
-use crate::search::{Given, Search};
+use crate::search::Search;
 use crate::shrink::Shrinking;
 use crate::task::run_task;
 use crate::writeback::Writeback;
 use pd_image::{Device, Sink, Source};
 use pd_kinds::{Passing, Stage};
-use pd_words::{Name, Request, read_words};
+use pd_words::{GivenSuper, Name, Request, read_words};
 use std::alloc::Global;
 
 /// Does what the words ask, and answers the status of the program.
@@ -178,11 +180,39 @@ fn run_request<S: Source, K: Sink, E: Sink, A: Device, B: Device, C: Device>(
                 from: from.word_in(words),
                 to: to.word_in(words),
                 shared,
-                given: Given {
+                given: GivenSuper {
                     transaction,
                     block_size,
                     blocks,
                 },
+            };
+            run_task(alloc, &task, out, notes, input, output, third)
+        }
+        Request::RepairNamed {
+            input: from,
+            output: to,
+            shared,
+            given,
+            named,
+        } => {
+            let task = NamedRepair {
+                from: from.word_in(words),
+                to: to.word_in(words),
+                shared,
+                given,
+                named,
+            };
+            run_task(alloc, &task, out, notes, input, output, third)
+        }
+        Request::DrySearch {
+            input: path,
+            given,
+            named,
+        } => {
+            let task = DrySearch {
+                path: path.word_in(words),
+                given,
+                named,
             };
             run_task(alloc, &task, out, notes, input, output, third)
         }

@@ -25,18 +25,8 @@ use pd_kinds::{CheckFault, MAX_META_BLOCKS, ThinSuper};
 use pd_lines::LineBuffer;
 use pd_repair::{RepairFault, repair_from, repair_shared_from};
 use pd_scan::{Roots, find_roots, found_pools_are_saved_whole, lost_super};
+use pd_words::GivenSuper;
 use std::alloc::Global;
-
-/// What is given of a superblock that is lost.
-#[derive(Clone, Copy)]
-pub struct Given {
-    /// The transaction of the pool.
-    pub transaction: u64,
-    /// The size of a data block, in sectors of 512 bytes.
-    pub block_size: u32,
-    /// The number of data blocks.
-    pub blocks: u64,
-}
 
 /// Writes the pool of the best roots that are found in the image at one path to the image at another, with the numbers
 /// that are given, and with the leaves that its devices share or without; and puts the line of these roots.
@@ -45,7 +35,7 @@ pub struct Search<'a> {
     pub from: &'a str,
     pub to: &'a str,
     pub shared: bool,
-    pub given: Given,
+    pub given: GivenSuper,
     ghost size: { IsPoolSize given.blocks },
 }
 
@@ -91,7 +81,7 @@ fn write_found<A: Device, B: Device>(
     alloc: Global,
     roots: &Roots,
     shared: bool,
-    given: &Given,
+    given: &GivenSuper,
     input: &mut A,
     output: &mut B,
 ) -> Result<Outcome, Stop>
@@ -124,7 +114,7 @@ fn write_found<A: Device, B: Device>(
 }
 
 /// Writes what can be saved of the pool with this superblock, with the leaves that its devices share or without.
-fn repair_lost<A: Device, B: Device>(
+pub(crate) fn repair_lost<A: Device, B: Device>(
     alloc: Global,
     shared: bool,
     input: &mut A,
@@ -133,7 +123,6 @@ fn repair_lost<A: Device, B: Device>(
 ) -> Result<(), RepairFault>
     requires attached { IsAttached (A.state input.old) }
     requires writable { IsWritable (B.state output.old) }
-    requires some { 1 ≤ lost.now.meta_map.blocks }
     requires there { lost.now.meta_map.blocks ≤ (A.state input.old).blocks }
     requires few { lost.now.meta_map.blocks ≤ 4161600 }
     requires data { lost.now.data_map.blocks ≤ 2 ^ 40 }
@@ -151,7 +140,7 @@ fn repair_lost<A: Device, B: Device>(
 }
 
 /// How many blocks of a device can be metadata: all, but no more than `MAX_META_BLOCKS`.
-fn usable_blocks<A: Device>(input: &A) -> u64
+pub(crate) fn usable_blocks<A: Device>(input: &A) -> u64
     requires { IsAttached (A.state input.now) }
     ensures { result ≡ min (A.state input.now).blocks MAX_META_BLOCKS }
 {

@@ -1,4 +1,4 @@
-//! The shell of what writes: a task attaches its devices, does its work over them, and ends with a line.
+//! The shell of what writes, or looks first: a task attaches its devices, does its work over them, and ends with a line or a text.
 
 ghost use Rattle.std.specs.Prelude.{◌≡◌, IsTrue};
 ghost use Rattle.pd_kinds.specs.Objects.{SinkState};
@@ -9,13 +9,13 @@ ghost use Rattle.pd_tools.specs.Task.{AreAlone, Ends, IsAtRest, LosesLine, PutsO
 ghost use Rattle.pd_tools.specs.Work.{AnswersTerms};
 
 use crate::ending::{Ending, Outcome, put_ending};
-use crate::notes::put_last_line;
+use crate::notes::{put_last_line, put_last_text};
 use crate::opening::{Places, open_all};
 use crate::stop::Stop;
 use pd_image::{Device, Sink};
 use std::alloc::Global;
 
-/// A request that writes devices, as it is asked.
+/// A request that does its work before it puts anything, as it is asked.
 pub(crate) trait Task {
     /// Its terms.
     ghost terms: { Self → Terms };
@@ -101,13 +101,17 @@ fn attach_and_work<T: Task, K: Sink, A: Device, B: Device, C: Device>(
     }
 }
 
-/// Puts the line of work that was done.
+/// Puts the line or the text of work that was done.
 fn put_outcome<K: Sink>(worked: Result<Outcome, Stop>, out: &mut K) -> Result<Ending, Stop>
     requires { (K.state out.old).access ≡ 0 }
     ensures { PutsOutcome worked result (K.state out.old) (K.state out.new) }
 {
     match worked? {
         Outcome::Line(line) => match put_last_line(out, line.as_bytes()) {
+            Ok(()) => Ok(Ending::Done),
+            Err(_) => Err(Stop::Stream),
+        },
+        Outcome::Told(looked) => match put_last_text(out, &looked) {
             Ok(()) => Ok(Ending::Done),
             Err(_) => Err(Stop::Stream),
         },

@@ -8,6 +8,8 @@ use Rattle.pd_answers.specs.Promises.{check, check_and_clear, generate, query, t
 use Rattle.pd_answers.specs.QueryLines.{Asked}
 use Rattle.pd_answers.specs.Rehearsals.{rehearse}
 use Rattle.pd_answers.specs.CacheRepairs.{repair_cache}
+use Rattle.pd_answers.specs.NamedRepairs.{dry_search, repair_named}
+use Rattle.pd_answers.specs.NamedRoots.{GivenSuper, NamedRoots}
 use Rattle.pd_answers.specs.Repairs.{repair}
 use Rattle.pd_answers.specs.Requests.{Request, query as a_query}
 use Rattle.pd_answers.specs.Restores.{restore}
@@ -15,8 +17,8 @@ use Rattle.pd_answers.specs.Searches.{search}
 use Rattle.pd_answers.specs.Shrinks.{shrink}
 use Rattle.pd_answers.specs.Terms.{Terms}
 use Rattle.pd_answers.specs.Writebacks.{writeback}
-use Rattle.std.specs.Option.{option_copied}
-use Rattle.pd_words.specs.Words.{asked_as, request_as, word_of, words_of}
+use Rattle.std.specs.Option.{option_copied, option_map}
+use Rattle.pd_words.specs.Words.{asked_as, given_as, named_as, request_as, word_of, words_of}
 use Rattle.pd_tools.specs.Work.{AnswersTerms}
 use Rattle.pd_tools.proofs.run.run_request.Goals as goal
 
@@ -103,6 +105,33 @@ returns-in-Search g c others =
     rw w.is (searched_as_asked w.shared (word_of words w.from) (word_of words w.to) c.word_in-in-Search.result.now c.word_in-in-Search-2.result.now w.transaction w.block_size w.blocks _ _ _ _
     c.word_in-in-Search.ensures c.word_in-in-Search-2.ensures
     (c.run_task-in-Search.ensures (record others { source = g.S.Source.state c.args.source.now })))
+
+-- so with those of a repair from named roots
+named_as_asked : (shared : Bool) (given : GivenSuper) (named : NamedRoots) (from to given_from given_to : List ℕ) (attached : SinkState) (before after : Objects) (status : ℕ)
+    → given_from ≡ from → given_to ≡ to → AnswersTerms (repair_named shared given_from given_to given named) attached before after status
+    → AnswersTerms (repair_named shared from to given named) attached before after status
+named_as_asked shared given named from to given_from given_to attached before after status same_from same_to answers = rw (same_from, same_to) at answers
+
+pub returns-in-RepairNamed : goal.returns-in-RepairNamed
+returns-in-RepairNamed g c others =
+    let words = map string_bytes c.args.words.now in
+    let w = c.in-RepairNamed in
+    rw w.is (named_as_asked w.shared (given_as w.given) (named_as w.named) (word_of words w.from) (word_of words w.to) c.word_in-in-RepairNamed.result.now c.word_in-in-RepairNamed-2.result.now _ _ _ _
+    c.word_in-in-RepairNamed.ensures c.word_in-in-RepairNamed-2.ensures
+    (c.run_task-in-RepairNamed.ensures (record others { source = g.S.Source.state c.args.source.now })))
+
+-- so with the image of a dry run
+looked_as_asked : (given : GivenSuper) (named : Option NamedRoots) (path word : List ℕ) (attached : SinkState) (before after : Objects) (status : ℕ)
+    → word ≡ path → AnswersTerms (dry_search word given named) attached before after status → AnswersTerms (dry_search path given named) attached before after status
+looked_as_asked given named path word attached before after status same answers = rw same at answers
+
+pub returns-in-DrySearch : goal.returns-in-DrySearch
+returns-in-DrySearch g c others =
+    let words = map string_bytes c.args.words.now in
+    let w = c.in-DrySearch in
+    rw w.is (looked_as_asked (given_as w.given) (option_map named_as w.named) (word_of words w.path) c.word_in-in-DrySearch.result.now _ _ _ _
+    c.word_in-in-DrySearch.ensures
+    (c.run_task-in-DrySearch.ensures (record others { source = g.S.Source.state c.args.source.now })))
 
 -- so with those of a cache's repair
 kept_as_asked : (version : Option ℕ) (from to given_from given_to : List ℕ) (attached : SinkState) (before after : Objects) (status : ℕ)

@@ -1,0 +1,28 @@
+use Rattle.std.specs.Option.{option_map}
+use Rattle.pd_answers.specs.NamedRepairs.{dry_search}
+use Rattle.pd_words.specs.Words.{given_as, named_as}
+use Rattle.pd_tools.specs.Opened.{devices}
+use Rattle.pd_tools.proofs.NamedRepairs.{dry_search_done, dry_search_none, dry_search_possible, dry_search_rests, halts_unread, named_some}
+use Rattle.pd_tools.proofs.dry_search.DrySearchTask.work.Goals as goal
+
+pub returns-in-Some-clause-works : goal.returns-in-Some-clause-works
+returns-in-Some-clause-works g c others notes first fresh was =
+    let self = c.args.self.now in
+    dry_search_done (given_as self.given) (option_map named_as self.named) self.path.now (record others { input = first.input; output = first.output; third = first.third }) _ (g.A.Device.state c.args.input.now) was.input
+    c.in-Some.looked (rw c.in-Some.is at c.in-Ok.ensures.told)
+
+pub returns-in-None-clause-works : goal.returns-in-None-clause-works
+returns-in-None-clause-works g c others notes first fresh was =
+    let self = c.args.self.now in
+    dry_search_none (given_as self.given) (option_map named_as self.named) self.path.now (record others { input = first.input; output = first.output; third = first.third }) _ (g.A.Device.state c.args.input.now) was.input
+    (rw c.in-None.is at c.in-Ok.ensures.told) (named_some _ named_as self.named (rw c.in-None.is at c.in-Ok.ensures.some))
+
+pub returns-in-Err-clause-works : goal.returns-in-Err-clause-works
+returns-in-Err-clause-works g c others notes first fresh was =
+    let self = c.args.self.now in
+    let possible = dry_search_possible (option_map named_as self.named) in
+    rw c.from.ensures
+    (halts_unread (dry_search self.path.now (given_as self.given) (option_map named_as self.named)) self.path.now (record others { input = first.input; output = first.output; third = first.third })
+    (devices (g.A.Device.state c.args.input.now) (g.B.Device.state c.args.output.now) (g.C.Device.state c.args.third.now)) notes (g.A.Device.state c.look.new.input) was was.input
+    (λ _. g.met.B.Device.measured c.args.output.now) (λ _. g.met.C.Device.measured c.args.third.now) c.look.ensures.kept
+    (λ alone. dry_search_rests (given_as self.given) (option_map named_as self.named) self.path.now _ _) possible.1.0 possible.1.1 tt c.in-Err.fault c.in-Err.ensures.faults)
