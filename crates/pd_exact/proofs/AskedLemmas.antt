@@ -14,8 +14,10 @@ use Rattle.pd_kinds.specs.Flagged.{kind_of}
 use Rattle.pd_kinds.specs.declared.kind.Kind.TheVariants.{Thin, Cache, Era}
 use Rattle.pd_kinds.specs.declared.kind.Stage.TheVariants.{Counts}
 use Rattle.pd_answers.specs.QueryLines.{text, shared_text, reverse_map, device_list, since, kept}
-use Rattle.pd_answers.specs.Requests.{check, check_and_clear, passing_check, query, restore, repair, search, repair_cache, generate, rehearse, writeback, shrink}
-use Rattle.pd_answers.specs.Words.{Region, is_flag, items_of, given, version_of, generated_number, number_below, region_of, tool_in, request_of, asked}
+use Rattle.pd_answers.specs.Requests.{check, check_and_clear, passing_check, query, restore, repair, search, repair_named, dry_search, repair_cache, generate, rehearse, writeback, shrink}
+use Rattle.pd_answers.specs.NamedRoots.{GivenSuper, NamedRoots}
+use Rattle.pd_answers.specs.Words.{Region, is_flag, items_of, given, given_super, named_roots, version_of, generated_number, number_below, region_of, tool_in, request_of, asked}
+use Rattle.pd_exact.specs.NamedRoots.{RootWords, SayRoots, with_roots}
 use Rattle.pd_exact.specs.Saved.{IsVersionAsked}
 use Rattle.pd_exact.specs.Search.{DoNumbersFit, NumberWords, SayNumbers, with_numbers}
 use Rattle.pd_exact.specs.Words.{IsName, IsVersionSaid, check_name, in_version, letting_pass, to_file, with_sharing}
@@ -88,7 +90,7 @@ thin_repair_asked true from to is_from is_to = rw (is_from, is_to) refl
 
 pub thin_search_asked : (shared : Bool) (from to : List ℕ) (words : NumberWords) (transaction block_size blocks : ℕ) → IsName from → IsName to → SayNumbers words transaction block_size blocks
     → asked (codes "thin_repair" ∷ (with_sharing shared ++ (codes "-i" ∷ from ∷ codes "-o" ∷ to ∷ with_numbers words))) ≡ Some (search shared from to transaction block_size blocks)
-unfolding is_flag items_of given version_of tool_in request_of asked
+unfolding is_flag items_of given version_of tool_in request_of asked given_super
 thin_search_asked false from to words transaction block_size blocks is_from is_to say =
     rw (is_from, is_to, say.names.0, say.names.1.0, say.names.1.1, say.transaction_is, say.block_size_is, say.blocks_is) refl
 thin_search_asked true from to words transaction block_size blocks is_from is_to say =
@@ -99,6 +101,35 @@ pub dry_repair_asked : (shared : Bool) (image : List ℕ) → IsName image
 unfolding is_flag items_of given version_of tool_in request_of asked
 dry_repair_asked false image is_image = rw is_image refl
 dry_repair_asked true image is_image = rw is_image refl
+
+pub named_repair_asked : (shared : Bool) (from to : List ℕ) (roots : RootWords) (words : NumberWords) (named : NamedRoots) (transaction block_size blocks : ℕ) → IsName from → IsName to → SayRoots roots named
+    → SayNumbers words transaction block_size blocks
+    → asked (codes "thin_repair" ∷ (with_sharing shared ++ (codes "-i" ∷ from ∷ codes "-o" ∷ to ∷ with_roots roots (with_numbers words))))
+    ≡ Some (repair_named shared from to (record { transaction = transaction; block_size = block_size; blocks = blocks }) named)
+unfolding is_flag items_of given version_of tool_in request_of asked given_super named_roots
+named_repair_asked false from to roots words named transaction block_size blocks is_from is_to roots_say say =
+    rw (is_from, is_to, roots_say.names.0, roots_say.names.1, say.names.0, say.names.1.0, say.names.1.1, roots_say.top_is, roots_say.details_is, say.transaction_is, say.block_size_is, say.blocks_is) refl
+named_repair_asked true from to roots words named transaction block_size blocks is_from is_to roots_say say =
+    rw (is_from, is_to, roots_say.names.0, roots_say.names.1, say.names.0, say.names.1.0, say.names.1.1, roots_say.top_is, roots_say.details_is, say.transaction_is, say.block_size_is, say.blocks_is) refl
+
+pub dry_search_asked : (shared : Bool) (image : List ℕ) (words : NumberWords) (transaction block_size blocks : ℕ) → IsName image → SayNumbers words transaction block_size blocks
+    → asked (codes "thin_repair" ∷ codes "--dry-run" ∷ (with_sharing shared ++ (codes "-i" ∷ image ∷ with_numbers words)))
+    ≡ Some (dry_search image (record { transaction = transaction; block_size = block_size; blocks = blocks }) None)
+unfolding is_flag items_of given version_of tool_in request_of asked given_super
+dry_search_asked false image words transaction block_size blocks is_image say =
+    rw (is_image, say.names.0, say.names.1.0, say.names.1.1, say.transaction_is, say.block_size_is, say.blocks_is) refl
+dry_search_asked true image words transaction block_size blocks is_image say =
+    rw (is_image, say.names.0, say.names.1.0, say.names.1.1, say.transaction_is, say.block_size_is, say.blocks_is) refl
+
+pub dry_named_asked : (shared : Bool) (image : List ℕ) (roots : RootWords) (words : NumberWords) (named : NamedRoots) (transaction block_size blocks : ℕ) → IsName image → SayRoots roots named
+    → SayNumbers words transaction block_size blocks
+    → asked (codes "thin_repair" ∷ codes "--dry-run" ∷ (with_sharing shared ++ (codes "-i" ∷ image ∷ with_roots roots (with_numbers words))))
+    ≡ Some (dry_search image (record { transaction = transaction; block_size = block_size; blocks = blocks }) (Some named))
+unfolding is_flag items_of given version_of tool_in request_of asked given_super named_roots
+dry_named_asked false image roots words named transaction block_size blocks is_image roots_say say =
+    rw (is_image, roots_say.names.0, roots_say.names.1, say.names.0, say.names.1.0, say.names.1.1, roots_say.top_is, roots_say.details_is, say.transaction_is, say.block_size_is, say.blocks_is) refl
+dry_named_asked true image roots words named transaction block_size blocks is_image roots_say say =
+    rw (is_image, roots_say.names.0, roots_say.names.1, say.names.0, say.names.1.0, say.names.1.1, roots_say.top_is, roots_say.details_is, say.transaction_is, say.block_size_is, say.blocks_is) refl
 
 pub cache_repair_asked : (word : Option (List ℕ)) (version : Option ℕ) (from to : List ℕ) → IsVersionSaid word version → IsName from → IsName to
     → asked (codes "cache_repair" ∷ (in_version word ++ (codes "-i" ∷ from ∷ codes "-o" ∷ to ∷ []))) ≡ Some (repair_cache version from to)

@@ -27,6 +27,7 @@ use Rattle.pd_answers.specs.Outputs.{IsWorkDone}
 use Rattle.pd_exact.specs.Exact.{IsCleanCacheIn}
 use Rattle.pd_exact.specs.Saved.{HoldsSavedCache, IsCacheRepairAnswered, IsSavedCache, IsSoundCacheRepair, IsVersionAsked, LeavesSavedCache, PutsKept, version_written}
 use Rattle.pd_exact.proofs.CacheLawful.{hint_size_in}
+use Rattle.pd_exact.proofs.StageLemmas.{none_of_super}
 use Rattle.pd_exact.proofs.Repaired.{IsMadeSo, answered_at_zero, at_both, holds_made, leaves_made, line_at_zero}
 use Rattle.pd_exact.proofs.Restored.{Image}
 use Rattle.pd_exact.proofs.WordLemmas.{field_fits, first_whole}
@@ -100,7 +101,7 @@ module _ (version : Option ℕ) (asked : IsVersionAsked version)
     → IsLaid (laid_cache m v (room_of (length base))) base image → IsCleanCache image m)
     (version_is : (m : CacheMeaning) (v : ℕ) (base image : Image) → IsLawfulCache m → (v ≡ 1) ⊎ (v ≡ 2) → cache_need v m (room_of (length base)) ≤ room_of (length base)
     → IsLaid (laid_cache m v (room_of (length base))) base image → (cache_fields (block_at image 0)).version ≡ v) where
-  caches_made_so : IsMadeSo Cache making_in (saved_in version) (IsSavedCache version)
+  caches_made_so : IsMadeSo (faults Cache stages.Super) making_in (saved_in version) (IsSavedCache version)
   caches_made_so image base made is none enough laid =
       let v = version_written version image in
       let m = saved_cache image in
@@ -113,12 +114,12 @@ module _ (version : Option ℕ) (asked : IsVersionAsked version)
   module _ (from to : List ℕ) (before after : Objects) (status : ℕ) (answered : IsCacheRepairAnswered version from to before after status) where
     pub cache_holds : IsWorkDone before after status → HoldsSavedCache version before after
     cache_holds done =
-        holds_made Cache making_in (λ (s : SavedIn). keeps_line s.cache) (saved_in version) (IsSavedCache version) caches_made_so before after answered.finding answered.found
+        holds_made (faults Cache stages.Super) making_in (λ (s : SavedIn). keeps_line s.cache) (saved_in version) (IsSavedCache version) caches_made_so before after answered.finding answered.found
         (answered.leaves.made done)
 
     pub cache_leaves : LeavesSavedCache version before after
     cache_leaves =
-        leaves_made Cache making_in (λ (s : SavedIn). keeps_line s.cache) (saved_in version) (IsSavedCache version) caches_made_so before after answered.finding answered.found
+        leaves_made (faults Cache stages.Super) making_in (λ (s : SavedIn). keeps_line s.cache) (saved_in version) (IsSavedCache version) caches_made_so before after answered.finding answered.found
         answered.leaves.output.output.crash
 
 -- at status 0 the line of what is kept was put
@@ -135,7 +136,7 @@ module _ (all_saved : (image : Image) → HasBytes image → faults Cache stages
   pub cache_repaired : (status : ℕ) → cache_need (version_written version image) (cache_meaning image) (room_of (length base)) ≤ room_of (length base)
       → IsCacheRepairAnswered version from to before after status → NoFaults before after → (status ≡ 0) ⊎ (status ≡ 7)
   cache_repaired status enough answered nothing =
-      let zero = answered_at_zero Cache making_in (λ (s : SavedIn). keeps_line s.cache) (saved_in version) before after answered.finding answered.found image base sound.read sound.held sound.sound
+      let zero = answered_at_zero (faults Cache stages.Super) making_in (λ (s : SavedIn). keeps_line s.cache) (saved_in version) before after answered.finding answered.found image base sound.read sound.held (none_of_super Cache image sound.sound)
       (rw (all_saved image sound.is.bytes sound.sound) enough) in
       subst (λ (n : ℕ). (status ≡ n) ⊎ (status ≡ 7)) zero (answered.complete nothing)
 

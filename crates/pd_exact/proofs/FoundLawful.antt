@@ -27,12 +27,12 @@ mapping_times blocks least (m ∷ ms) are =
 device_times : (blocks least : ℕ) (d : ThinDevice) → IsDevice blocks least d → DoTimesFit (times_of d)
 device_times blocks least d is = (is.created_fits, (is.snapped_fits, mapping_times blocks 0 d.mappings is.mappings))
 
-all_times : (blocks least : ℕ) (ds : List ThinDevice) → AreDevices blocks least ds → DoTimesFit (flat_map times_of ds)
+pub all_times : (blocks least : ℕ) (ds : List ThinDevice) → AreDevices blocks least ds → DoTimesFit (flat_map times_of ds)
 all_times blocks least [] are = tt
 all_times blocks least (d ∷ ds) are =
     all_append (λ (t : ℕ). t < 2 ^ 32) (times_of d) (flat_map times_of ds) (device_times blocks least d are.0) (all_times blocks (d.id + 1) ds are.1)
 
-latest_fits : (first : ℕ) (times : List ℕ) → first < 2 ^ 32 → DoTimesFit times → fold max first times < 2 ^ 32
+pub latest_fits : (first : ℕ) (times : List ℕ) → first < 2 ^ 32 → DoTimesFit times → fold max first times < 2 ^ 32
 latest_fits first [] fits all = fits
 latest_fits first (t ∷ times) fits all =
     let here = all.0 in

@@ -1,9 +1,8 @@
 -- What an answered repair comes to, where what is laid of what is saved is so.
-use Rattle.std.proofs.Common.{◌≡◌, ◌⊎◌, inl, inr, ⊎_elim, ℕ, ◌≤◌, nat_eq, false, Bool, List, [], length, Some, IfSome, refl, sym, ap, ◌∙◌, subst}
+use Rattle.std.proofs.Common.{◌≡◌, ◌⊎◌, inl, inr, ⊎_elim, ℕ, ◌≤◌, nat_eq, false, Bool, List, [], ◌∷◌, length, Some, IfSome, refl, sym, ap, ◌∙◌, subst}
 use Rattle.std.proofs.lemmas.Bool.{cases_Bool, eq-eqb, eqb-true, le-ltb, ltb-false}
 use Rattle.std.proofs.lemmas.Option.{IfSome_then}
 use Rattle.pd_kinds.specs.declared.fault.Fault.{Fault}
-use Rattle.pd_kinds.specs.declared.kind.Kind.{Kind}
 use Rattle.pd_kinds.specs.declared.kind.Kind.TheVariants.{Thin}
 use Rattle.pd_kinds.specs.declared.kind.Stage.TheVariants as stages
 use Rattle.pd_kinds.specs.Crash.{HoldsSynced, IsOldNoneOrMade, LeavesOnly}
@@ -23,7 +22,7 @@ use Rattle.pd_answers.specs.Answer.{NoFaults, Objects}
 use Rattle.pd_answers.specs.Makings.{Lays, Making, is_too_small}
 use Rattle.pd_answers.specs.Outputs.{HoldsMade}
 use Rattle.pd_answers.specs.Promises.{terms_of}
-use Rattle.pd_answers.specs.Repairs.{FindsSaved, Salvaged, saved_answer, saved_making, saved_of}
+use Rattle.pd_answers.specs.Repairs.{FindsSaved, Salvaged, Saved, repair_by, saved_answer, saved_making, saved_of}
 use Rattle.pd_answers.specs.Requests.{repair}
 use Rattle.pd_answers.specs.Terms.{IsAnswered}
 use Rattle.pd_exact.specs.Exact.{HoldsSalvage, IsRepairAnswered, IsSoundRepair, LeavesSalvage}
@@ -57,21 +56,21 @@ module _ {S : Type 0} (making : S → Making) (line : S → List ℕ) (found : S
   answers_zero none enough = rw (eq-eqb found.report.total 0 none, le-ltb found.room ((making found.saved).need found.room) enough) refl
 
 -- what holds of an image that is laid of what is saved of another one, and of that superblock
-abbrev pub IsMadeSo : {S : Type 0} → Kind → (S → Making) → (Image → S) → (Image → Image → Type 0) → Type 0
-IsMadeSo kind making all_of Made = (image base made : Image) → IsImage image → faults kind stages.Super image ≡ []
+abbrev pub IsMadeSo : {S : Type 0} → (Image → List Fault) → (S → Making) → (Image → S) → (Image → Image → Type 0) → Type 0
+IsMadeSo broken making all_of Made = (image base made : Image) → IsImage image → broken image ≡ []
     → (making (all_of image)).need (room_of (length base)) ≤ room_of (length base) → IsLaid ((making (all_of image)).laid (room_of (length base))) base made → Made image made
 
 -- what a repair comes to by what it leaves
-module _ {S : Type 0} (kind : Kind) (making : S → Making) (line : S → List ℕ) (all_of : Image → S) (Made : Image → Image → Type 0) (so : IsMadeSo kind making all_of Made)
-    (before after : Objects) (found : Salvaged S) (finds : FindsSaved kind all_of before after found) where
+module _ {S : Type 0} (broken : Image → List Fault) (making : S → Making) (line : S → List ℕ) (all_of : Image → S) (Made : Image → Image → Type 0) (so : IsMadeSo broken making all_of Made)
+    (before after : Objects) (found : Salvaged S) (finds : FindsSaved broken all_of before after found) where
   abbrev LaysHere : Image → Image → Type 0
   LaysHere = Lays (saved_answer making line found) (making found.saved) found.room
 
-  made_of_saved : (image base made : Image) → IsImage image → (found.report ≡ report_of (faults kind stages.Super image)) × (found.saved ≡ all_of image)
+  made_of_saved : (image base made : Image) → IsImage image → (found.report ≡ report_of (broken image)) × (found.saved ≡ all_of image)
       → found.room ≡ room_of (length base) → LaysHere base made → Made image made
   made_of_saved image base made is right room laid =
       let given = not_refused making line found laid.0 in
-      let none = none_counted (faults kind stages.Super image) (sym (ap (λ (r : Reported). r.total) right.0) ∙ given.none) in
+      let none = none_counted (broken image) (sym (ap (λ (r : Reported). r.total) right.0) ∙ given.none) in
       so image base made is none (rw (right.1, room) at given.room) (rw (right.1, room) at laid.1)
 
   -- what the output holds
@@ -96,19 +95,18 @@ module _ {S : Type 0} (kind : Kind) (making : S → Making) (line : S → List �
       ⊎_elim (λ old. inl old) (λ other. inr (⊎_elim (λ none. inl none) (λ made. inr (made_of_saved image base left is right told.0 made)) other)) (outcome chance))))
 
 -- nothing is refused of an input whose superblock has no fault, where there is room
-module _ {S : Type 0} (kind : Kind) (making : S → Making) (line : S → List ℕ) (all_of : Image → S) (before after : Objects) (found : Salvaged S)
-    (finds : FindsSaved kind all_of before after found) (image base : Image) (read : before.input.held ≡ Some image) (held : before.output.held ≡ Some base)
-    (sound : faults kind stages.Whole image ≡ []) where
+module _ {S : Type 0} (broken : Image → List Fault) (making : S → Making) (line : S → List ℕ) (all_of : Image → S) (before after : Objects) (found : Salvaged S)
+    (finds : FindsSaved broken all_of before after found) (image base : Image) (read : before.input.held ≡ Some image) (held : before.output.held ≡ Some base)
+    (none : broken image ≡ []) where
   pub saved_is : found.saved ≡ all_of image
-  saved_is = (at_told before.input.held image (λ (i : Image). (found.report ≡ report_of (faults kind stages.Super i)) × (found.saved ≡ all_of i)) read finds.1).1
+  saved_is = (at_told before.input.held image (λ (i : Image). (found.report ≡ report_of (broken i)) × (found.saved ≡ all_of i)) read finds.1).1
 
   pub answered_at_zero : (making (all_of image)).need (room_of (length base)) ≤ room_of (length base) → (saved_answer making line found).status ≡ 0
   answered_at_zero enough =
-      let right = at_told before.input.held image (λ (i : Image). (found.report ≡ report_of (faults kind stages.Super i)) × (found.saved ≡ all_of i)) read finds.1 in
+      let right = at_told before.input.held image (λ (i : Image). (found.report ≡ report_of (broken i)) × (found.saved ≡ all_of i)) read finds.1 in
       let room = at_told before.output.held base (λ (i : Image). found.room ≡ room_of (length i)) held finds.0.told in
-      let none : found.report.total ≡ 0 =
-      ap (λ (r : Reported). r.total) right.0 ∙ ap (λ (list : List Fault). length list) (none_of_super kind image sound) in
-      answers_zero making line found none (rw (saved_is, room) enough)
+      let empty : found.report.total ≡ 0 = ap (λ (r : Reported). r.total) right.0 ∙ ap (λ (list : List Fault). length list) none in
+      answers_zero making line found empty (rw (saved_is, room) enough)
 
 -- what holds of an output that is told, and of an input
 pub at_both : (before after : Objects) (image base : Image) (Q : Image → Image → Type 0) → before.input.held ≡ Some image → before.output.held ≡ Some base → IsImage image
@@ -117,40 +115,46 @@ at_both before after image base Q read held is holds =
     at_told before.output.held base (λ (b : Image). IfSome after.output.held (Q image)) held
     (at_told before.input.held image (λ (i : Image). IsImage i → IfSome before.output.held (λ (b : Image). IfSome after.output.held (Q i))) read holds is)
 
--- a repair with shared leaves or without
-module _ (shared : Bool) (Made : Image → Image → Type 0) (so : IsMadeSo Thin (saved_making shared) (saved_of shared) Made) (from to : List ℕ) (before after : Objects) where
+-- a repair that looks at these faults, with shared leaves or without
+module _ (broken : Image → List Fault) (statuses : List ℕ) (shared : Bool) (all_of : Image → Saved shared) (Made : Image → Image → Type 0) (so : IsMadeSo broken (saved_making shared) all_of Made)
+    (from to : List ℕ) (before after : Objects) where
   abbrev IsAnsweredSo : ℕ → Type 0
-  IsAnsweredSo = IsAnswered (terms_of (Some (repair shared from to))) before after
+  IsAnsweredSo = IsAnswered (repair_by broken statuses shared all_of from to) before after
 
   pub repair_holds : IsAnsweredSo 0
       → IfSome before.input.held (λ image. IsImage image → IfSome before.output.held (λ base. IfSome after.output.held (λ made. Made image made × HoldsSynced made after.output)))
   repair_holds answered =
-      holds_made Thin (saved_making shared) (λ _. []) (saved_of shared) Made so before after answered.finding answered.found (answered.leaves.output.made.output.made refl)
+      holds_made broken (saved_making shared) (λ _. []) all_of Made so before after answered.finding answered.found (answered.leaves.output.made.output.made refl)
 
   pub repair_leaves : (status : ℕ) → IsAnsweredSo status
       → IfSome before.input.held (λ image. IsImage image → IfSome before.output.held (λ base. LeavesOnly (IsOldNoneOrMade base (Made image)) before.output after.output))
   repair_leaves status answered =
-      leaves_made Thin (saved_making shared) (λ _. []) (saved_of shared) Made so before after answered.finding answered.found answered.leaves.output.made.output.crash
+      leaves_made broken (saved_making shared) (λ _. []) all_of Made so before after answered.finding answered.found answered.leaves.output.made.output.crash
+
+-- the statuses of one that looks at the superblock
+abbrev pub super_statuses : List ℕ
+super_statuses = 0 ∷ 1 ∷ 4 ∷ 5 ∷ 7 ∷ []
 
 pub repair_done : (shared : Bool) (image base : Image) (from to : List ℕ) (before after : Objects) → IsSoundRepair image base before → (status : ℕ)
     → (saved_making shared (saved_of shared image)).need (room_of (length base)) ≤ room_of (length base)
     → IsAnswered (terms_of (Some (repair shared from to))) before after status → NoFaults before after → (status ≡ 0) ⊎ (status ≡ 7)
 repair_done shared image base from to before after sound status enough answered nothing =
-    let zero = answered_at_zero Thin (saved_making shared) (λ _. []) (saved_of shared) before after answered.finding answered.found image base sound.read sound.held sound.sound enough in
+    let zero = answered_at_zero (faults Thin stages.Super) (saved_making shared) (λ _. []) (saved_of shared) before after answered.finding answered.found image base sound.read sound.held
+    (none_of_super Thin image sound.sound) enough in
     subst (λ (n : ℕ). (status ≡ n) ⊎ (status ≡ 7)) zero (answered.complete nothing)
 
 -- what is laid of a lawful pool is a clean image of it
 module _ (lawful : (image : Image) → IsImage image → faults Thin stages.Super image ≡ [] → IsLawfulPool (salvage image))
     (clean : (m : ThinPool) (base image : Image) → IsLawfulPool m → thin_need m (room_of (length base)) ≤ room_of (length base)
     → IsLaid (laid_pool m (room_of (length base))) base image → IsCleanPool image m) where
-  pub pools_made_so : IsMadeSo Thin (saved_making false) (saved_of false) (λ image made. IsCleanPool made (salvage image))
+  pub pools_made_so : IsMadeSo (faults Thin stages.Super) (saved_making false) (saved_of false) (λ image made. IsCleanPool made (salvage image))
   pools_made_so image base made is none enough laid = clean (salvage image) base made (lawful image is none) enough laid
 
   pub holds_salvage : (from to : List ℕ) (before after : Objects) → IsRepairAnswered from to before after 0 → HoldsSalvage before after
-  holds_salvage = repair_holds false (λ image made. IsCleanPool made (salvage image)) pools_made_so
+  holds_salvage = repair_holds (faults Thin stages.Super) super_statuses false (saved_of false) (λ image made. IsCleanPool made (salvage image)) pools_made_so
 
   pub leaves_salvage : (from to : List ℕ) (before after : Objects) (status : ℕ) → IsRepairAnswered from to before after status → LeavesSalvage before after
-  leaves_salvage = repair_leaves false (λ image made. IsCleanPool made (salvage image)) pools_made_so
+  leaves_salvage = repair_leaves (faults Thin stages.Super) super_statuses false (saved_of false) (λ image made. IsCleanPool made (salvage image)) pools_made_so
 
 module _ (all_saved : (image : Image) → HasBytes image → faults Thin stages.Whole image ≡ [] → salvage image ≡ thin_meaning image)
     (image base : Image) (from to : List ℕ) (before after : Objects) (sound : IsSoundRepair image base before) where

@@ -56,18 +56,18 @@ shape_lawful mean are image none lawful =
     }
 
 -- a clean image of a shape whose leaves are used twice keeps it
-keeps : (image : List (List ℕ)) (w : ThinShape) (m : ThinPool) → IsCleanShape image w → IsSharedTwice w → pool_of w ≡ m → KeepsShape image m w
+pub keeps : (image : List (List ℕ)) (w : ThinShape) (m : ThinPool) → IsCleanShape image w → IsSharedTwice w → pool_of w ≡ m → KeepsShape image m w
 keeps image w m clean twice means = record { pool = subst (IsCleanPool image) means clean.pool; shape = clean.shared twice; counts = clean.counts }
 
 module _ (mean : MeanSaved) (twice : AreTwice) (clean : AreLaidClean) where
   pub shapes_made_so : ((image : Image) → IsImage image → faults Thin stages.Super image ≡ [] → IsLawfulShape (saved_shape image))
-      → IsMadeSo Thin (saved_making true) (saved_of true) (λ image made. KeepsShape made (salvage image) (saved_shape image))
+      → IsMadeSo (faults Thin stages.Super) (saved_making true) (saved_of true) (λ image made. KeepsShape made (salvage image) (saved_shape image))
   shapes_made_so lawful image base made is none enough laid =
       keeps made (saved_shape image) (salvage image) (clean (saved_shape image) base made (lawful image is none) enough laid)
       (twice (thin_fields (block_at image 0)) image) (mean (thin_fields (block_at image 0)) image)
 
 -- the superblock of found roots, in the format of their pool
-found_are_lost : (image : List (List ℕ)) (transaction block_size blocks : ℕ) (roots : FoundRoots)
+pub found_are_lost : (image : List (List ℕ)) (transaction block_size blocks : ℕ) (roots : FoundRoots)
     → found_fields (lost_graph image blocks) transaction block_size roots ≡ lost_fields roots transaction block_size (lost_graph image blocks).nr blocks
 unfolding lost_graph graph_of
 found_are_lost image transaction block_size blocks roots = refl

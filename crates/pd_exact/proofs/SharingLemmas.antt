@@ -3,10 +3,12 @@ use Rattle.std.proofs.Common.{◌≡◌, ℕ, ◌<◌, Bool, List, Option, Some,
 use Rattle.std.specs.List.{Contains}
 use Rattle.std.proofs.lemmas.Option.{IfSome_then}
 use Rattle.pd_kinds.specs.declared.kind.Kind.TheVariants.{Thin}
+use Rattle.pd_kinds.specs.declared.kind.Stage.TheVariants as stages
 use Rattle.pd_kinds.specs.Edge.{is_outside}
 use Rattle.pd_kinds.specs.Graph.{block_at}
 use Rattle.pd_kinds.specs.Meaning.{ThinDevice}
 use Rattle.pd_kinds.specs.Node.{Entry}
+use Rattle.pd_kinds.specs.Stages.{faults}
 use Rattle.pd_kinds.specs.ThinSuper.{ThinFields, thin_fields}
 use Rattle.pd_laid_thin.specs.CleanPool.{IsCleanPool}
 use Rattle.pd_answers.specs.Answer.{Objects}
@@ -18,7 +20,7 @@ use Rattle.pd_laid.specs.Salvage.{salvaged_entries, salvaged_device, salvage, sa
 use Rattle.pd_spells.specs.Lawful.{IsLawfulPool}
 use Rattle.pd_exact.specs.Sharing.{HasTimesOfSharing, IsShared, MappingPlace, SeesSharingWhere, SharingIsSeen, details_in}
 use Rattle.pd_exact.proofs.AmongLemmas.{comes_from}
-use Rattle.pd_exact.proofs.Repaired.{IsMadeSo, repair_holds}
+use Rattle.pd_exact.proofs.Repaired.{IsMadeSo, repair_holds, super_statuses}
 use Rattle.pd_exact.proofs.Restored.{Image}
 
 -- the entries of the mapping tree whose devices are saved
@@ -71,9 +73,9 @@ module _ (image : List (List ℕ)) (lawful : IsLawfulPool (salvage image)) (time
 abbrev pub IsLawfulRepair : Image → Image → Type 0
 IsLawfulRepair image made = IsLawfulPool (salvage image) × IsCleanPool made (salvage image)
 
-pub sees_sharing : (shared : Bool) → IsMadeSo Thin (saved_making shared) (saved_of shared) IsLawfulRepair → (IsSo : Image → Type 0) → ((image : Image) → IsSo image → HasTimesOfSharing image)
+pub sees_sharing : (shared : Bool) → IsMadeSo (faults Thin stages.Super) (saved_making shared) (saved_of shared) IsLawfulRepair → (IsSo : Image → Type 0) → ((image : Image) → IsSo image → HasTimesOfSharing image)
     → (from to : List ℕ) (before after : Objects) → IsAnswered (terms_of (Some (repair shared from to))) before after 0 → SeesSharingWhere IsSo before after
 sees_sharing shared made_so IsSo times from to before after answered =
-    IfSome_then before.input.held (repair_holds shared IsLawfulRepair made_so from to before after answered) (λ image told is.
+    IfSome_then before.input.held (repair_holds (faults Thin stages.Super) super_statuses shared (saved_of shared) IsLawfulRepair made_so from to before after answered) (λ image told is.
     IfSome_then before.output.held (told is) (λ base held.
     IfSome_then after.output.held held (λ made here so. subst SharingIsSeen (sym here.0.1.means) (saved_sees image here.0.0 (times image so)))))

@@ -4,13 +4,15 @@ use Rattle.std.specs.List.{find, range_with_len}
 use Rattle.std.proofs.lemmas.Bool.{both_ways, cases_Bool, cases_lt, le-leb, le-ltb, leb-false, leb-true, lt-ltb}
 use Rattle.pd_kinds.specs.Bitmap.{bitmaps_for}
 use Rattle.pd_kinds.specs.Graph.{block_at}
-use Rattle.pd_kinds.specs.ThinSuper.{thin_fields}
-use Rattle.pd_laid.specs.Salvage.{salvage}
-use Rattle.pd_shapes.specs.SavedShape.{saved_shape}
+use Rattle.pd_kinds.specs.ThinSuper.{ThinFields, thin_fields}
+use Rattle.pd_laid.specs.Salvage.{salvage_from}
+use Rattle.pd_shapes.specs.SavedShape.{saved_shape_from}
 use Rattle.pd_shapes.specs.SharedNeed.{shape_need}
 use Rattle.pd_spells.specs.ThinNeed.{thin_need}
 use Rattle.pd_answers.specs.KeptLines.{least_room, told_from}
-use Rattle.pd_answers.specs.Makings.{is_too_small}
+use Rattle.pd_answers.specs.Makings.{is_too_small, pool_making, shape_making}
+use Rattle.pd_answers.specs.NamedRepairs.{saved_from_named}
+use Rattle.pd_answers.specs.NamedRoots.{GivenSuper, NamedRoots, named_fields}
 use Rattle.pd_answers.specs.Repairs.{saved_making, saved_of}
 use Rattle.pd_kept.proofs.RoomLemmas.{pool_bitmaps, shape_bitmaps}
 use Rattle.pd_exact.specs.DryRun.{told_need}
@@ -61,7 +63,19 @@ module _ (need : ℕ → ℕ) (form : (n : ℕ) → need 0 + bitmaps_for n ≡ n
           let there = form least in
           le-ltb room (need room) (omega arith) ∙ sym (le-ltb room least more)
 
+-- of what is saved by a superblock with these fields, without its shared leaves or with them
+pub pool_told : (fields : ThinFields) (image : List (List ℕ)) (room : ℕ) → is_too_small (pool_making (salvage_from fields image)) room ≡ nat_lt room (told_from fields image).need
+pool_told fields image room = too_small (thin_need (salvage_from fields image)) (pool_bitmaps (salvage_from fields image)) room
+
+pub shape_told : (fields : ThinFields) (image : List (List ℕ)) (room : ℕ) → is_too_small (shape_making (saved_shape_from fields image)) room ≡ nat_lt room (told_from fields image).shared_need
+shape_told fields image room = too_small (shape_need (saved_shape_from fields image)) (shape_bitmaps (saved_shape_from fields image)) room
+
 pub room_told : (shared : Bool) (image : List (List ℕ)) (room : ℕ) → is_too_small (saved_making shared (saved_of shared image)) room
     ≡ nat_lt room (told_need shared (told_from (thin_fields (block_at image 0)) image))
-room_told false image room = too_small (thin_need (salvage image)) (pool_bitmaps (salvage image)) room
-room_told true image room = too_small (shape_need (saved_shape image)) (shape_bitmaps (saved_shape image)) room
+room_told false image room = pool_told (thin_fields (block_at image 0)) image room
+room_told true image room = shape_told (thin_fields (block_at image 0)) image room
+
+pub named_told : (shared : Bool) (image : List (List ℕ)) (given : GivenSuper) (named : NamedRoots) (room : ℕ) → is_too_small (saved_making shared (saved_from_named shared image given named)) room
+    ≡ nat_lt room (told_need shared (told_from (named_fields image given named) image))
+named_told false image given named room = pool_told (named_fields image given named) image room
+named_told true image given named room = shape_told (named_fields image given named) image room

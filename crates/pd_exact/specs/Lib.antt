@@ -6,3 +6,4 @@ pub mod Search
 pub mod Sharing
 pub mod Shrink
 pub mod DryRun
+pub mod NamedRoots

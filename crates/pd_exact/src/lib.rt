@@ -9,6 +9,7 @@ mod cache_repairs;
 mod caches;
 mod dry_runs;
 mod laws;
+mod named_repairs;
 mod repairs;
 mod searches;
 mod shared;
@@ -32,6 +33,10 @@ pub use laws::{
     cleared_images_stay_clean, clearing_checks_tell_what_passes,
     crashed_clearing_leaves_no_other_image, crashed_restore_leaves_no_other_pool,
     passing_checks_tell_leaks, restored_dump_means_the_same, restored_pool_is_clean,
+};
+pub use named_repairs::{
+    fitting_roots_are_saved_whole, named_pools_are_lawful, named_repair_is_clean,
+    named_repairs_have_room_where_told,
 };
 pub use repairs::{
     crashed_repair_leaves_no_other_pool, repaired_pool_is_clean, repaired_pool_sees_sharing,
@@ -65,8 +70,9 @@ pub use words::{
     thin_check_tells_clean_and_clears, thin_dump_puts_the_text, thin_generate_puts_its_text,
     thin_ls_puts_the_devices, thin_rehearse_makes_its_pool, thin_repair_finds_the_roots,
     thin_repair_finds_the_sharing, thin_repair_keeps_the_sharing, thin_repair_makes_what_is_saved,
-    thin_repair_sees_sharing, thin_restore_is_asked, thin_restore_makes_the_pool,
-    thin_rmap_puts_the_mappings, thin_shared_dump_puts_the_shape, thin_shrink_keeps_the_sharing,
+    thin_repair_saves_from_named_roots, thin_repair_sees_sharing, thin_repair_tells_the_states,
+    thin_restore_is_asked, thin_restore_makes_the_pool, thin_rmap_puts_the_mappings,
+    thin_shared_dump_puts_the_shape, thin_shrink_keeps_the_sharing,
     thin_shrink_makes_the_pool_smaller,
 };
 pub use writebacks::{stopped_writeback_keeps_the_view, written_back_cache_is_clean};

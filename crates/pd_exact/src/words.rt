@@ -13,11 +13,13 @@ ghost use Rattle.pd_spells.specs.CacheText.{SpellsCache};
 ghost use Rattle.pd_spells.specs.EraText.{SpellsEra};
 ghost use Rattle.pd_spells.specs.ThinText.{SpellsPool};
 ghost use Rattle.pd_answers.specs.Answer.{Objects};
+ghost use Rattle.pd_answers.specs.NamedRoots.{NamedRoots};
 ghost use Rattle.pd_answers.specs.Outputs.{IsWorkDone};
 ghost use Rattle.pd_answers.specs.QueryLines.{device_list_lines, rmap_lines, since_lines};
 ghost use Rattle.pd_answers.specs.Requests.{restore};
 ghost use Rattle.pd_answers.specs.Words.{Region, asked, generated_number, is_value, number_below, region_of, version_of};
 ghost use Rattle.pd_exact.specs.Exact.{HoldsCacheOfText, HoldsCleared, HoldsPoolOfText, HoldsSalvage, HoldsTargetOfText, LeavesOldOrCleared};
+ghost use Rattle.pd_exact.specs.NamedRoots.{HasNoStates, HoldsNamed, RootWords, SayRoots, TellsNamed, TellsStates, with_roots};
 ghost use Rattle.pd_exact.specs.Saved.{HoldsSavedCache, HoldsSavedShape, PutsKept};
 ghost use Rattle.pd_exact.specs.Sharing.{HasTimesOfSharing, IsDamagedPool, IsKeptPool, SeesSharingWhere};
 ghost use Rattle.pd_exact.specs.Search.{HasNoRoots, HoldsBestPool, HoldsBestShape, HoldsFoundPool, HoldsFoundShape, NumberWords, SayNumbers, with_numbers};
@@ -31,6 +33,7 @@ use crate::laws::{
     checks_tell_clean_images, cleared_image_is_clean, clearing_checks_tell_what_passes,
     crashed_clearing_leaves_no_other_image, passing_checks_tell_leaks, restored_pool_is_clean,
 };
+use crate::named_repairs::named_repair_is_clean;
 use crate::repairs::{repaired_pool_is_clean, repaired_pool_sees_sharing};
 use crate::searches::searched_pool_is_clean;
 use crate::shared::laid_shapes_are_clean;
@@ -42,6 +45,7 @@ use crate::targets::{restored_target_is_clean, sound_targets_are_lawful};
 use crate::writebacks::written_back_cache_is_clean;
 use pd_gen::generated_text_spells_a_pool;
 use pd_image_shapes::sound_pools_have_a_shape;
+use pd_scan::first_state_is_the_best;
 use pd_shapes::{
     either_version_spells_a_shape, pool_text_has_one_shape, pool_text_has_one_verdict,
     pool_text_is_accepted_where_there_is_room,
@@ -243,6 +247,30 @@ pub fn thin_repair_finds_the_sharing()
 pub fn thin_repair_tells_what_it_would_keep()
     ensures { (shared : Bool) (image : List ℕ) (before after : Objects) → IsName image → CallEnds (codes "thin_repair" ∷ codes "--dry-run" ∷ (with_sharing shared ++ (codes "-i" ∷ image ∷ []))) 0 before after → TellsKeptOfInput before after }
 {}
+
+/// `thin_repair -i IMAGE -o IMAGE --mapping-root TOP --details-root DETAILS --transaction-id TRANSACTION --data-block-size SIZE
+/// --nr-data-blocks BLOCKS`, with `--shared` before `-i` or not: status 0 says that the output is clean and means what can be saved of the
+/// input from these two roots, whatever is damaged, with nothing unsynced; with shared leaves its devices share each leaf that two or more
+/// of them had whole. Status 1 never comes.
+pub fn thin_repair_saves_from_named_roots()
+    ensures made { (shared : Bool) (from to : List ℕ) (roots : RootWords) (words : NumberWords) (named : NamedRoots) (transaction block_size blocks : ℕ) (before after : Objects) → IsName from → IsName to → SayRoots roots named → SayNumbers words transaction block_size blocks → CallEnds (codes "thin_repair" ∷ (with_sharing shared ++ (codes "-i" ∷ from ∷ codes "-o" ∷ to ∷ with_roots roots (with_numbers words)))) 0 before after → HoldsNamed shared (record { transaction = transaction; block_size = block_size; blocks = blocks }) named before after }
+    ensures never { (shared : Bool) (from to : List ℕ) (roots : RootWords) (words : NumberWords) (named : NamedRoots) (transaction block_size blocks : ℕ) (before after : Objects) → IsName from → IsName to → SayRoots roots named → SayNumbers words transaction block_size blocks → CallEnds (codes "thin_repair" ∷ (with_sharing shared ++ (codes "-i" ∷ from ∷ codes "-o" ∷ to ∷ with_roots roots (with_numbers words)))) 1 before after → ⊥ }
+{
+    named_repair_is_clean();
+}
+
+/// `thin_repair --dry-run -i IMAGE --transaction-id TRANSACTION --data-block-size SIZE --nr-data-blocks BLOCKS`, with `--shared` before `-i`
+/// or not: status 0 says that the states of the input were put from which a repair can choose, the best first, and what it would keep of
+/// the first one; status 1 says that no two trees of the input fit each other. With `--mapping-root TOP --details-root DETAILS` before the
+/// numbers status 0 says that it was put what a repair from these roots would keep, and status 1 never comes.
+pub fn thin_repair_tells_the_states()
+    ensures told { (shared : Bool) (image : List ℕ) (words : NumberWords) (transaction block_size blocks : ℕ) (before after : Objects) → IsName image → SayNumbers words transaction block_size blocks → CallEnds (codes "thin_repair" ∷ codes "--dry-run" ∷ (with_sharing shared ++ (codes "-i" ∷ image ∷ with_numbers words))) 0 before after → TellsStates (record { transaction = transaction; block_size = block_size; blocks = blocks }) before after }
+    ensures none { (shared : Bool) (image : List ℕ) (words : NumberWords) (transaction block_size blocks : ℕ) (before after : Objects) → IsName image → SayNumbers words transaction block_size blocks → CallEnds (codes "thin_repair" ∷ codes "--dry-run" ∷ (with_sharing shared ++ (codes "-i" ∷ image ∷ with_numbers words))) 1 before after → HasNoStates (record { transaction = transaction; block_size = block_size; blocks = blocks }) before }
+    ensures named { (shared : Bool) (image : List ℕ) (roots : RootWords) (words : NumberWords) (named : NamedRoots) (transaction block_size blocks : ℕ) (before after : Objects) → IsName image → SayRoots roots named → SayNumbers words transaction block_size blocks → CallEnds (codes "thin_repair" ∷ codes "--dry-run" ∷ (with_sharing shared ++ (codes "-i" ∷ image ∷ with_roots roots (with_numbers words)))) 0 before after → TellsNamed (record { transaction = transaction; block_size = block_size; blocks = blocks }) named before after }
+    ensures never { (shared : Bool) (image : List ℕ) (roots : RootWords) (words : NumberWords) (named : NamedRoots) (transaction block_size blocks : ℕ) (before after : Objects) → IsName image → SayRoots roots named → SayNumbers words transaction block_size blocks → CallEnds (codes "thin_repair" ∷ codes "--dry-run" ∷ (with_sharing shared ++ (codes "-i" ∷ image ∷ with_roots roots (with_numbers words)))) 1 before after → ⊥ }
+{
+    first_state_is_the_best();
+}
 
 /// `cache_repair -i IMAGE -o IMAGE`, in the input's version of the metadata or, where `--metadata-version` says so, another: status 0 says
 /// that the output is clean and means what can be saved of the cache, in that version, with nothing unsynced, and that the line of what is

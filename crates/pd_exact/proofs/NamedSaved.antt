@@ -1,0 +1,139 @@
+-- What is saved from named roots.
+use Rattle.std.proofs.Common.{◌≡◌, ℕ, ◌+◌, ◌-◌, ◌^◌, ◌<◌, ◌≤◌, max, min, Bool, true, false, cond, List, [], ◌∷◌, length, replicate, refl, sym, ap, ap₂, subst, ◌∙◌, arith}
+use Rattle.std.specs.List.{flat_map}
+use Rattle.std.specs.Prelude.{fold}
+use Rattle.std.proofs.lemmas.List.Elements.{All-replicate}
+use Rattle.pd_kinds.specs.declared.limits.TheConstants.{MAX_META_BLOCKS}
+use Rattle.pd_kinds.specs.Image.{HasBytes, IsImage}
+use Rattle.pd_kinds.specs.Layout.{graph_of}
+use Rattle.pd_kinds.specs.Limits.{room_of}
+use Rattle.pd_kinds.specs.Meaning.{ThinPool}
+use Rattle.pd_kinds.specs.ThinSuper.{ThinFields}
+use Rattle.pd_laid.specs.FoundRoots.{FoundRoots, are_fitting, devices_below, found_pool, lost_graph, roots_at, times_of}
+use Rattle.pd_laid.specs.Laid.{IsLaid}
+use Rattle.pd_laid.specs.LaidThin.{laid_pool}
+use Rattle.pd_laid.specs.Salvage.{salvage_from}
+use Rattle.pd_laid_thin.specs.CleanPool.{IsCleanPool}
+use Rattle.pd_shapes.specs.PoolText.{IsLawfulShape}
+use Rattle.pd_shapes.specs.SavedShape.{saved_shape_from}
+use Rattle.pd_spells.specs.Lawful.{IsLawfulPool}
+use Rattle.pd_spells.specs.ThinNeed.{thin_need}
+use Rattle.pd_answers.specs.NamedRepairs.{saved_from_named}
+use Rattle.pd_answers.specs.NamedRoots.{GivenSuper, NamedRoots, lacks_details, latest_time, named_fields, saved_time, timeless_fields}
+use Rattle.pd_answers.specs.Repairs.{saved_making}
+use Rattle.pd_answers.specs.Searches.{found_fields, found_shape}
+use Rattle.pd_scan.specs.Roots.{lost_fields}
+use Rattle.pd_exact.specs.NamedRoots.{IsSavedFrom, named_pool, named_shape}
+use Rattle.pd_exact.specs.Search.{DoNumbersFit}
+use Rattle.pd_exact.proofs.FoundLawful.{SavesFound, all_times, latest_fits}
+use Rattle.pd_exact.proofs.Repaired.{IsMadeSo}
+use Rattle.pd_exact.proofs.Restored.{Image}
+use Rattle.pd_exact.proofs.SalvageLawful.{devices_lawful}
+use Rattle.pd_exact.proofs.SharedRepaired.{AreLaidClean, AreShapes, AreTwice, MeanSaved, found_are_lost, keeps}
+
+module _ (image : Image) (given : GivenSuper) (named : NamedRoots) (is : IsImage image) (fit : DoNumbersFit given.transaction given.block_size given.blocks) where
+  few_blocks : (timeless_fields image given named).meta_map.blocks ≤ MAX_META_BLOCKS
+  unfolding lost_graph graph_of
+  few_blocks = omega arith
+
+  -- the time fits 32 bits
+  time_fits : saved_time (timeless_fields image given named) image < 2 ^ 32
+  unfolding saved_time
+  time_fits = by (lacks_details (timeless_fields image given named) image)
+    where
+      latest : latest_time (timeless_fields image given named) image < 2 ^ 32
+      latest = latest_fits 0 _ (omega arith) (all_times _ 0 _ (devices_lawful (timeless_fields image given named) image is.bytes few_blocks fit.transaction_fits (omega arith)))
+
+      by : (lacks : Bool) → cond lacks (min (latest_time (timeless_fields image given named) image + 1) (2 ^ 32 - 1)) (latest_time (timeless_fields image given named) image) < 2 ^ 32
+      by true = omega arith
+      by false = latest
+
+  pub named_lawful : IsLawfulPool (named_pool image given named)
+  unfolding salvage_from named_fields lost_graph graph_of
+  named_lawful = record {
+    uuid_len = refl;
+    uuid_bytes = All-replicate (λ (b : ℕ). b < 256) 16 0 (omega arith);
+    time_fits = time_fits;
+    transaction_fits = fit.transaction_fits;
+    block_size_fits = fit.block_size_fits;
+    data_blocks_fit = fit.blocks_fit;
+    devices = devices_lawful (named_fields image given named) image is.bytes few_blocks fit.transaction_fits time_fits;
+  }
+
+  few_named : (named_fields image given named).meta_map.blocks ≤ 2 ^ 64
+  unfolding named_fields
+  few_named = let few = few_blocks in omega arith
+
+  pub named_shape_lawful : MeanSaved → AreShapes → IsLawfulShape (named_shape image given named)
+  named_shape_lawful mean are = record {
+    shape = are (named_fields image given named) image few_named;
+    pool = subst IsLawfulPool (sym (mean (named_fields image given named) image)) named_lawful;
+  }
+
+-- an image that is laid of it is so
+pub named_made_so : (mean : MeanSaved) (are : AreShapes) (twice : AreTwice) (clean_shape : AreLaidClean)
+    → ((m : ThinPool) (base image : Image) → IsLawfulPool m → thin_need m (room_of (length base)) ≤ room_of (length base)
+    → IsLaid (laid_pool m (room_of (length base))) base image → IsCleanPool image m)
+    → (shared : Bool) (given : GivenSuper) (named : NamedRoots) → DoNumbersFit given.transaction given.block_size given.blocks
+    → IsMadeSo (λ image. []) (saved_making shared) (λ image. saved_from_named shared image given named) (IsSavedFrom shared given named)
+named_made_so mean are twice clean_shape clean false given named fit image base made is none enough laid =
+    clean (named_pool image given named) base made (named_lawful image given named is fit) enough laid
+named_made_so mean are twice clean_shape clean true given named fit image base made is none enough laid =
+    keeps made (named_shape image given named) (named_pool image given named)
+    (clean_shape (named_shape image given named) base made (named_shape_lawful image given named is fit mean are) enough laid)
+    (twice (named_fields image given named) image) (mean (named_fields image given named) image)
+
+-- no details are lost of roots that fit
+abbrev pub LosesNone : Type 0
+LosesNone = (image : List (List ℕ)) (data_blocks transaction block_size : ℕ) (roots : FoundRoots) → HasBytes image
+    → are_fitting (lost_graph image data_blocks) image roots.top roots.details ≡ true
+    → lacks_details (lost_fields roots transaction block_size (lost_graph image data_blocks).nr data_blocks) image ≡ false
+
+-- roots that fit each other
+module _ (saved : SavesFound) (loses : LosesNone) (image : Image) (given : GivenSuper) (named : NamedRoots) (bytes : HasBytes image)
+    (fit : are_fitting (lost_graph image given.blocks) image named.top named.details ≡ true) where
+  abbrev untimed : FoundRoots
+  untimed = record { top = named.top; details = named.details; mappings = 0; time = 0; transaction = 0; times = 0 }
+
+  abbrev roots : FoundRoots
+  roots = roots_at (lost_graph image given.blocks) image named.top named.details
+
+  timeless_saved : salvage_from (timeless_fields image given named) image ≡ found_pool (lost_graph image given.blocks) image given.transaction given.block_size untimed
+  timeless_saved =
+      ap (λ (fields : ThinFields). salvage_from fields image) (found_are_lost image given.transaction given.block_size given.blocks untimed)
+      ∙ saved image given.blocks given.transaction given.block_size untimed bytes fit
+
+  none_lost : lacks_details (timeless_fields image given named) image ≡ false
+  none_lost =
+      ap (λ (fields : ThinFields). lacks_details fields image) (found_are_lost image given.transaction given.block_size given.blocks untimed)
+      ∙ loses image given.blocks given.transaction given.block_size untimed bytes fit
+
+  latest_is : latest_time (timeless_fields image given named) image ≡ roots.time
+  unfolding found_pool roots_at
+  latest_is = ap (λ (m : ThinPool). fold max 0 (flat_map times_of m.devices)) timeless_saved
+
+  time_is : saved_time (timeless_fields image given named) image ≡ roots.time
+  unfolding saved_time
+  time_is =
+      ap (λ (lacks : Bool). cond lacks (min (latest_time (timeless_fields image given named) image + 1) (2 ^ 32 - 1)) (latest_time (timeless_fields image given named) image)) none_lost
+      ∙ latest_is
+
+  fields_are : named_fields image given named ≡ found_fields (lost_graph image given.blocks) given.transaction given.block_size roots
+  unfolding named_fields roots_at
+  fields_are = ap (λ (time : ℕ). timed time) time_is
+    where
+      timed : ℕ → ThinFields
+      timed time = found_fields (lost_graph image given.blocks) given.transaction given.block_size (record { top = named.top; details = named.details; mappings = 0; time = time; transaction = 0; times = 0 })
+
+  roots_fit : are_fitting (lost_graph image given.blocks) image roots.top roots.details ≡ true
+  unfolding roots_at
+  roots_fit = fit
+
+  pub named_found : named_pool image given named ≡ found_pool (lost_graph image given.blocks) image given.transaction given.block_size roots
+  named_found =
+      ap (λ (fields : ThinFields). salvage_from fields image) (fields_are ∙ found_are_lost image given.transaction given.block_size given.blocks roots)
+      ∙ saved image given.blocks given.transaction given.block_size roots bytes roots_fit
+
+  pub named_shape_found : named_shape image given named ≡ found_shape (lost_graph image given.blocks) image given.transaction given.block_size roots
+  unfolding found_shape
+  named_shape_found = ap (λ (fields : ThinFields). saved_shape_from fields image) fields_are
