@@ -214,10 +214,6 @@ while read -r tool row; do
         # shellcheck disable=SC2046
         takes no "$tool" $(printf '%s\n' "$least" | sed "s|$part||")
     done <parts
-    # and of those that go together there isn't one alone
-    part=$(printf '%s\n' "$row" | sed -n 's/.*\[\(-[^] ]* [^] ]*\) -.*/\1/p')
-    # shellcheck disable=SC2086
-    [ -z "$part" ] || takes no "$tool" $least $part
 done <"$table"
 
 # Words
@@ -928,14 +924,46 @@ zeros small.img 2
 try 4 thin_repair -i leak.img -o small.img
 notes_have 'pdata_tools: no room: need '
 
+# A number in an image, of this many bytes
+number_in() {
+    od -An -tu"$2" -j"$3" -N"$2" "$1" | tr -d ' '
+}
+# The first child of a node, or what its first value names. A node has its flags at 4, 1 of an inner one and 2 of a leaf, how many
+# entries it has at 16, how many it can have at 20, and from 32 on its keys and then its values
+first_of() {
+    number_in "$1" 8 $(($2 * 4096 + 32 + 8 * $(number_in "$1" 4 $(($2 * 4096 + 20)))))
+}
+# The roots that the superblock names
+roots_in() {
+    printf '%s %s' "$(number_in "$1" 8 320)" "$(number_in "$1" 8 328)"
+}
+
+# the first leaf of the first device's mappings is damaged
+cp thin-pool.img leaf.img
+node=$(first_of leaf.img "$(number_in leaf.img 8 320)")
+leaf=$(first_of leaf.img "$node")
+what="the leaf $leaf below $node"
+if [ "$(number_in leaf.img 4 $((node * 4096 + 4)))" != 1 ] || [ "$(number_in leaf.img 4 $((leaf * 4096 + 4)))" != 2 ]; then
+    bad 'other nodes than these were wanted'
+fi
+entries=$(number_in leaf.img 4 $((leaf * 4096 + 16)))
+dd if=/dev/zero bs=4096 count=1 2>/dev/null | tr '\000' '\377' | dd of=leaf.img bs=4096 seek="$leaf" conv=notrunc 2>/dev/null
+try 1 thin_check leaf.img
+out "fault meta $leaf checksum" 'faults 1'
+
 # What a dry run tells is what a repair then keeps, on as many blocks and on no fewer
 
+# What was told is what a dump has
+tells() {
+    awk '$1 == "device" { print $2, $3; devices++; mappings += $3 } END { print "keeps", devices + 0, mappings + 0 }' "$2" >wanted
+    awk '$3 == "kept" { print $2, $4 } $1 == "keeps" { print $1, $2, $3 }' "$1" | diff wanted - >differs || bad "$1: $(cat differs)"
+}
 cp lost.img before.img
 try 1 thin_repair --dry-run -i lost.img
 out
 notes 'fault meta 0 checksum' 'faults 1'
 same lost.img before.img
-for name in leak damaged details; do
+for name in leak damaged details leaf; do
     cp $name.img before.img
     try 0 thin_repair --dry-run --shared -i $name.img
     mv out told.txt
@@ -956,8 +984,7 @@ for name in leak damaged details; do
         # shellcheck disable=SC2086
         try 0 thin_repair $option -i $name.img -o fresh.img
         try 0 thin_dump fresh.img
-        awk '$1 == "device" { print $2, $3; devices++; mappings += $3 } END { print "keeps", devices + 0, mappings + 0 }' out >wanted
-        awk '$3 == "kept" { print $2, $4 } $1 == "keeps" { print $1, $2, $3 }' told.txt | diff wanted - >differs || bad "$name.img: $(cat differs)"
+        tells told.txt out
     done
 done
 # of a sound pool all is kept; without the mapping tree all devices are lost
@@ -965,6 +992,11 @@ try 0 thin_repair --dry-run -i leak.img
 ! awk '$1 == "device" && ($3 != "kept" || $4 != $6)' out | grep . || bad 'a device of a sound pool is not whole'
 try 0 thin_repair --dry-run -i damaged.img
 [ "$(grep -c '^device [0-9]* lost [0-9]*$' out)" -eq "$(grep -c '^device ' thin-pool.txt)" ] || bad 'not all devices are lost'
+# with the leaf its own mappings are lost, and no others
+try 0 thin_repair --dry-run -i leaf.img
+awk '$1 == "device" && ($3 != "kept" || $4 != $6)' out >lines
+awk -v entries="$entries" '$1 == "device" { print "device", $2, "kept", $3 - entries, "of", $3; exit }' thin-pool.txt >wanted
+same lines wanted
 
 # Two devices whose mappings are one leaf, which is written once where it stays shared
 
@@ -984,12 +1016,13 @@ try 0 thin_restore -i shared.txt -o snapped.img
 zeros ten.img 10
 try 4 thin_repair -i snapped.img -o ten.img
 notes_have 'pdata_tools: no room: need 11, blocks 10'
-for words in '' '--transaction-id 0 --data-block-size 128 --nr-data-blocks 2'; do
+given='--transaction-id 0 --data-block-size 128 --nr-data-blocks 2'
+for words in '' "$given" "--mapping-root $(number_in snapped.img 8 320) --details-root $(number_in snapped.img 8 328) $given"; do
     zeros ten.img 10
     # shellcheck disable=SC2086 # several words
     try 0 thin_repair --shared -i snapped.img -o ten.img $words
     case $words in
-    '') out ;;
+    '' | --mapping-root*) out ;;
     *) grep -q '^roots .* mappings 4 time 0$' out || bad 'other roots' ;;
     esac
     notes
@@ -997,6 +1030,10 @@ for words in '' '--transaction-id 0 --data-block-size 128 --nr-data-blocks 2'; d
     try 0 thin_dump --shared ten.img
     same out shared.txt
 done
+# shellcheck disable=SC2086 # several words
+try 0 thin_repair --dry-run -i snapped.img $given
+out "roots $(roots_in snapped.img) devices 2 mappings 4 transaction 0 time 0" 'device 1 kept 2 of 2' 'device 2 kept 2 of 2' \
+    'keeps 2 4 need 11 shared 10'
 zeros ten.img 10
 try 0 "$lvm/thin_repair" -i snapped.img -o ten.img
 try 0 thin_dump --shared ten.img
@@ -1071,6 +1108,7 @@ search() {
     try "$wanted" thin_repair -i "$from" -o fresh.img --transaction-id 5 --data-block-size 128 --nr-data-blocks "$blocks"
 }
 cp lost.img before.img
+zeros fresh.img 1024
 search 0 lost.img 4000
 out 'roots 183 184 mappings 1461 time 4'
 notes
@@ -1092,6 +1130,167 @@ for sectors in 0 8 100 2097280; do
 done
 try 2 thin_repair -i lost.img -o fresh.img --transaction-id 5 --data-block-size 128
 notes_have 'usage: thin_repair [--shared] -i DEVICE -o DEVICE'
+same fresh.img before.img
+
+# The states that a search chooses from, the best first. A repair from the roots of the first one makes what the search makes, and a
+# dry run with these roots tells what that is
+
+given='--transaction-id 5 --data-block-size 128 --nr-data-blocks 4000'
+# These two roots, as words
+roots_at() {
+    printf '%s' "--mapping-root $1 --details-root $2"
+}
+# shellcheck disable=SC2086 # several words
+for name in lost leak damaged details leaf; do
+    zeros fresh.img 1024
+    search 0 $name.img 4000
+    mv out found.txt
+    try 0 thin_dump fresh.img
+    mv out dumped.txt
+    cp $name.img before.img
+    try 0 thin_repair --dry-run -i $name.img $given
+    notes
+    mv out listed.txt
+    try 0 thin_repair --dry-run --shared -i $name.img $given
+    same out listed.txt
+    sed -n '1s/ devices [0-9]* mappings \([0-9]*\) transaction [0-9]* / mappings \1 /p' listed.txt >lines
+    same lines found.txt
+    sed '/^roots /d' listed.txt >told.txt
+    tells told.txt dumped.txt
+    ! grep -E ' lost | of \?$' told.txt || bad 'something of the first state is lost'
+    # each mapping tree once, 100 at most, and the latest first
+    grep '^roots ' listed.txt >states.txt
+    [ "$(wc -l <states.txt)" -le 100 ] || bad 'too many states'
+    ! cut -d ' ' -f 2 states.txt | sort | uniq -d | grep . || bad 'a mapping tree stands twice'
+    awk 'NR > 1 && ($11 > time || ($11 == time && $9 > transaction)) { exit 1 } { time = $11; transaction = $9 }' states.txt || bad 'no order'
+    read -r _ top details _ <states.txt
+    roots=$(roots_at "$top" "$details")
+    try 0 thin_repair --dry-run -i $name.img $roots $given
+    same out told.txt
+    notes
+    for option in '' --shared; do
+        zeros fresh.img 1024
+        try 0 thin_repair $option -i $name.img -o fresh.img $roots $given
+        out
+        notes
+        try 0 thin_check fresh.img
+        try 0 thin_dump fresh.img
+        same out dumped.txt
+    done
+    same $name.img before.img
+done
+# shellcheck disable=SC2086
+try 1 thin_repair --dry-run -i era.img $given
+out
+notes 'pdata_tools: no roots'
+# each state can be taken; the kernel left at least another one behind
+# shellcheck disable=SC2086
+try 0 thin_repair --dry-run -i lost.img $given
+grep '^roots ' out >states.txt
+[ "$(wc -l <states.txt)" -gt 1 ] || bad 'there is no other state'
+# shellcheck disable=SC2046,SC2086
+while read -r _ top details _ devices _ mappings _; do
+    try 0 thin_repair --dry-run -i lost.img $(roots_at "$top" "$details") $given
+    grep -q "^keeps $devices $mappings need " out || bad 'another state'
+done <states.txt
+sed 1d states.txt >others.txt
+read -r _ top details _ <others.txt
+roots=$(roots_at "$top" "$details")
+# shellcheck disable=SC2086
+try 0 thin_repair --dry-run -i lost.img $roots $given
+mv out told.txt
+# shellcheck disable=SC2086
+try 0 thin_repair --shared -i lost.img -o fresh.img $roots $given
+try 0 thin_check fresh.img
+try 0 thin_dump fresh.img
+tells told.txt out
+
+# Roots that are named: nothing is searched, and what stands below them is saved, whatever is damaged there
+
+# shellcheck disable=SC2046,SC2086 # several words
+for name in leak damaged details leaf; do
+    roots=$(roots_at $(roots_in $name.img))
+    try 0 thin_repair --dry-run -i $name.img
+    mv out told.txt
+    try 0 thin_repair --dry-run -i $name.img $roots $given
+    same out told.txt
+    # a damaged state isn't listed
+    try 0 thin_repair --dry-run -i $name.img $given
+    case $name in
+    leak) grep -q "^roots $(roots_in $name.img) " out || bad "it isn't listed" ;;
+    *) ! grep -q "^roots $(roots_in $name.img) " out || bad 'it is listed' ;;
+    esac
+    zeros fresh.img 1024
+    try 0 thin_repair -i $name.img -o fresh.img
+    try 0 thin_dump fresh.img
+    case $name in
+    leak | leaf) mv out kept.txt ;;
+    # nothing that is saved has a time
+    damaged) sed '2s/ [0-9]* \(5 128 4000\)$/ 0 \1/' out >kept.txt ;;
+    # without details a device gets one time more than the latest one of a mapping
+    details)
+        latest=$(awk '$1 == "map" && $5 > time { time = $5 } END { print time + 1 }' thin-pool.txt)
+        sed -e "2s/ [0-9]* \(5 128 4000\)$/ $latest \1/" -e "s/^\(device [0-9]* [0-9]*\) .*$/\1 5 $latest $latest/" out >kept.txt
+        ;;
+    esac
+    for option in '' --shared; do
+        zeros fresh.img 1024
+        try 0 thin_repair $option -i $name.img -o fresh.img $roots $given
+        out
+        notes
+        try 0 thin_check fresh.img
+        try 0 thin_dump fresh.img
+        same out kept.txt
+    done
+done
+# block 0 isn't looked at: it is zeros
+cp leaf.img lost-leaf.img
+dd if=/dev/zero of=lost-leaf.img bs=4096 count=1 conv=notrunc 2>/dev/null
+# shellcheck disable=SC2086
+try 0 thin_repair --shared -i lost-leaf.img -o fresh.img $roots $given
+out
+notes
+try 0 thin_dump fresh.img
+same out kept.txt
+# roots that are no block of the metadata give nothing, and neither does an image without a block
+: >none.img
+{
+    sed '2s/ [0-9]* \(5 128 4000\)$/ 0 \1/; 2q' thin-pool.txt
+    echo end
+} >kept.txt
+for root in 0 $(($(wc -c <lost.img) / 4096)) 18446744073709551615; do
+    for image in lost none; do
+        # shellcheck disable=SC2046,SC2086
+        try 0 thin_repair --dry-run -i $image.img $(roots_at $root $root) $given
+        sed -n 's/^keeps 0 0 need \([0-9]*\) shared [0-9]*$/\1/p' out >lines
+        if [ "$(wc -l <out)" -ne 1 ] || [ ! -s lines ]; then
+            bad 'something is kept'
+        fi
+        zeros fresh.img "$(cat lines)"
+        # shellcheck disable=SC2046,SC2086
+        try 0 thin_repair -i $image.img -o fresh.img $(roots_at $root $root) $given
+        try 0 thin_dump fresh.img
+        same out kept.txt
+    done
+done
+# no room; and what isn't all of the words
+cp fresh.img before.img
+# shellcheck disable=SC2086
+try 4 thin_repair -i lost.img -o small.img $roots $given
+out
+notes_have 'pdata_tools: no room: need '
+for option in --mapping-root --details-root --transaction-id --data-block-size --nr-data-blocks; do
+    words=$(printf '%s\n' "$roots $given" | sed "s/$option [0-9]*//")
+    # shellcheck disable=SC2086
+    try 2 thin_repair -i lost.img -o fresh.img $words
+    # shellcheck disable=SC2086
+    try 2 thin_repair --dry-run -i lost.img $words
+    out
+done
+# shellcheck disable=SC2086
+try 2 thin_repair --dry-run -i lost.img -o fresh.img $roots $given
+# shellcheck disable=SC2086
+try 2 thin_repair --dry-run -i lost.img --mapping-root 18446744073709551616 --details-root 1 $given
 same fresh.img before.img
 
 # Writebacks: a cache of two blocks, one of them dirty
@@ -1710,9 +1909,11 @@ END
     try 0 bash complete.bash "$complete" pdata_tools thin_r
     out thin_restore thin_repair thin_rmap thin_rehearse
     try 0 bash complete.bash "$complete" thin_repair --dry-run -
-    out --shared -i
+    out --shared -i --transaction-id --data-block-size --nr-data-blocks --mapping-root --details-root
     try 0 bash complete.bash "$complete" thin_repair -i lost.img --transaction-id 5 --d
-    out --data-block-size
+    out --data-block-size --details-root --dry-run
+    try 0 bash complete.bash "$complete" thin_repair -o fresh.img --d
+    out --data-block-size --details-root
     try 0 bash complete.bash "$complete" thin_check --until w
     out walk whole
     try 0 bash complete.bash "$complete" pdata_tools thin_check --until counts -
