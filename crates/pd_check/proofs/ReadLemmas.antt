@@ -7,6 +7,7 @@ use Rattle.std.proofs.lemmas.List.{length-map}
 use Rattle.std.proofs.lemmas.List.FromFn.{length-range_with_len}
 use Rattle.std.proofs.lemmas.List.Sums.{sum_by-append}
 use Rattle.std.proofs.lemmas.Map.Made.{IsDistinct-from_count}
+use Rattle.std.proofs.lemmas.Map.Steps.{length-le_from_distinct_below}
 use Rattle.pd_kinds.specs.declared.kind.Kind.{Kind}
 use Rattle.pd_kinds.specs.declared.kind.Kind.TheVariants.{Thin, Cache, Era}
 use Rattle.pd_kinds.specs.declared.kind.Stage.{Stage}
@@ -34,8 +35,9 @@ use Rattle.pd_tree.specs.TreeRoles.{HasCacheTrees, HasEraTrees, HasThinTrees, Is
 use Rattle.pd_whole.specs.Known.{IsKnown}
 use Rattle.pd_whole.specs.Reached.{AreReachedOnce, InRole, IsIndexRole, blocks_in, named_in}
 use Rattle.pd_whole.proofs.ChargeLemmas.{whole_bad-append, whole_bad-cons}
+use Rattle.pd_whole.proofs.SumLemmas.{member_holds}
 use Rattle.pd_check.specs.ByKind.{graph_of_super}
-use Rattle.pd_check.specs.Counts.{count_reads, data_reads, meta_reads}
+use Rattle.pd_check.specs.Counts.{ClaimsFew, count_reads, data_reads, meta_reads}
 use Rattle.pd_check.specs.Whole.{IsWhole}
 use Rattle.pd_check.proofs.CountLemmas.{data_number as counted_data, index_keys, map_number as counted_meta}
 
@@ -128,6 +130,12 @@ data_parts graph image root =
     ∷ record { role = 7; blocks = nodes_below 4 image 63 root.overflow_root }
     ∷ []
 
+-- blocks that are reached once each are no more than the metadata blocks
+within_blocks : (graph : Graph) (image : List (List ℕ)) (part : InRole) → AreReachedOnce graph image part → length part.blocks ≤ graph.nr
+within_blocks graph image part once =
+    length-le_from_distinct_below part.blocks graph.nr once.once
+    (λ q among. (member_holds (λ b. IsReached graph image b part.role) q part.blocks once.reached among).block)
+
 -- the laws on what is reached
 module _ (tree_once : (graph : Graph) (image : List (List ℕ)) (b role size : ℕ) → IsLawful graph → AreInOrder graph image → IsTreeRole graph role size → IsReached graph image b role
     → AreReachedOnce graph image (record { role = role; blocks = nodes_below size image 63 b }))
@@ -138,9 +146,7 @@ module _ (tree_once : (graph : Graph) (image : List (List ℕ)) (b role size : �
     → named_in graph image (record { role = role; blocks = b ∷ [] }) next ≡ index_blocks graph.nr (block_at image b))
     (named_once : (graph : Graph) (image : List (List ℕ)) (is_bitmap : ℕ → Bool) (part : InRole) (role : ℕ) → IsLawful graph
     → ((b : ℕ) → b < graph.nr → whole_bad (bitmap_tests graph image is_bitmap) b Index ≡ false) → part.role < 16 → is_bitmap role ≡ true → AreReachedOnce graph image part
-    → AreReachedOnce graph image (record { role = role; blocks = named_in graph image part role }))
-    (no_more : (graph : Graph) (image : List (List ℕ)) (parts : List InRole) → AllByRecursion (AreReachedOnce graph image) parts
-    → IsDistinct nat_eq (map (λ (part : InRole). part.role) parts) → blocks_in parts ≤ length (nodes graph image)) where
+    → AreReachedOnce graph image (record { role = role; blocks = named_in graph image part role })) where
   -- a map of metadata blocks
   module _ (graph : Graph) (image : List (List ℕ)) (is_bitmap : ℕ → Bool) (root : SmRoot) (index bitmaps overflow : ℕ) (lawful : IsLawful graph) (ordered : AreInOrder graph image)
       (none : (b : ℕ) → b < graph.nr → whole_bad (bitmap_tests graph image is_bitmap) b Index ≡ false) (is_role : is_bitmap bitmaps ≡ true)
@@ -190,27 +196,58 @@ module _ (tree_once : (graph : Graph) (image : List (List ℕ)) (b role size : �
             ),
           )
 
-      data_number : blocks_in (data_parts (thin_graph (block_at image 0)) image (thin_fields (block_at image 0)).data_map)
-          ≡ data_reads (record { root = (thin_fields (block_at image 0)).data_map; role = 3 }) image
-      unfolding data_parts
-      data_number =
+      -- the index tree names as many bitmaps as the data blocks need
+      bitmaps_named : length (named_in (thin_graph (block_at image 0)) image (record { role = 5; blocks = nodes_below 16 image 63 (thin_fields (block_at image 0)).data_map.bitmap_root }) 6)
+          ≡ bitmaps_for (thin_fields (block_at image 0)).data_map.blocks
+      bitmaps_named =
           let graph = thin_graph (block_at image 0) in
           let root = (thin_fields (block_at image 0)).data_map in
           let roots = thin_roots stages.Whole image tt none in
           let trees = thin_trees (block_at image 0) in
           let entries = entries_below graph image 16 5 root.bitmap_root in
-          let named : length (named_in graph image (record { role = 5; blocks = nodes_below 16 image 63 root.bitmap_root }) 6) ≡ bitmaps_for root.blocks =
           ap (length {A = ℕ}) (tree_names graph image root.bitmap_root 5 16 6 (λ v. v % 2 ^ 64) trees.data_index known.lawful (ordered Thin stages.Whole image tt none) roots.data_index (λ same. omega arith))
           ∙ (length-map {A = Entry} {B = ℕ} entries (λ (e : Entry). e.value % 2 ^ 64)
           ∙ (sym (length-map {A = Entry} {B = ℕ} entries (λ (e : Entry). e.key))
           ∙ (ap (length {A = ℕ}) (index_keys image none roots.data_index.block)
           ∙ (length-range_with_len 0 (bitmaps_for graph.data_blocks)
-          ∙ ap (λ (n : ℕ). bitmaps_for n) (sym (counted_data Thin (block_at image 0) (record { root = root; role = 3 }) refl)))))) in
+          ∙ ap (λ (n : ℕ). bitmaps_for n) (sym (counted_data Thin (block_at image 0) (record { root = root; role = 3 }) refl))))))
+
+      data_number : blocks_in (data_parts (thin_graph (block_at image 0)) image (thin_fields (block_at image 0)).data_map)
+          ≡ data_reads (record { root = (thin_fields (block_at image 0)).data_map; role = 3 }) image
+      unfolding data_parts
+      data_number = let named = bitmaps_named in omega arith
+
+      -- each of them stands in a block of its own
+      claims_thin : bitmaps_for (thin_fields (block_at image 0)).data_map.blocks ≤ (thin_graph (block_at image 0)).nr
+      unfolding data_parts
+      claims_thin =
+          let graph = thin_graph (block_at image 0) in
+          let part : InRole =
+          record { role = 6; blocks = named_in graph image (record { role = 5; blocks = nodes_below 16 image 63 (thin_fields (block_at image 0)).data_map.bitmap_root }) 6 } in
+          let named = bitmaps_named in
+          let most = within_blocks graph image part data_once.1.0 in
           omega arith
 
-      few_thin : count_reads Thin (block_at image 0) image ≤ length (nodes (thin_graph (block_at image 0)) image)
+    -- so a superblock claims no more data blocks than there is room for their bitmaps
+    claims_of : (kind : Kind) (image : List (List ℕ)) (audit : Audit) → faults kind stages.Whole image ≡ [] → IsKnown (graph_of_super kind (block_at image 0)) image audit
+        → ClaimsFew kind (block_at image 0)
+    claims_of Thin image audit none known = claims_thin image audit none known
+    claims_of Cache image audit none known = tt
+    claims_of Era image audit none known = tt
+
+    pub claims : (kind : Kind) (first : List ℕ) (image : List (List ℕ)) (audit : Audit) → IsWhole kind first image audit → ClaimsFew kind first
+    claims kind first image audit whole =
+        subst (ClaimsFew kind) whole.first_block
+        (claims_of kind image audit whole.none (subst (λ (m : List ℕ). IsKnown (graph_of_super kind m) image audit) (sym whole.first_block) whole.known))
+
+    -- and the blocks that are read are no more than the reachable pairs
+    module _ (no_more : (graph : Graph) (image : List (List ℕ)) (parts : List InRole) → AllByRecursion (AreReachedOnce graph image) parts
+        → IsDistinct nat_eq (map (λ (part : InRole). part.role) parts) → blocks_in parts ≤ length (nodes graph image)) where
+      -- of a pool
+      few_thin : (image : List (List ℕ)) (audit : Audit) → faults Thin stages.Whole image ≡ [] → IsKnown (thin_graph (block_at image 0)) image audit
+          → count_reads Thin (block_at image 0) image ≤ length (nodes (thin_graph (block_at image 0)) image)
       unfolding count_reads data_parts map_parts
-      few_thin =
+      few_thin image audit none known =
           let graph = thin_graph (block_at image 0) in
           let fields = thin_fields (block_at image 0) in
           let roots = thin_roots stages.Whole image tt none in
@@ -219,59 +256,59 @@ module _ (tree_once : (graph : Graph) (image : List (List ℕ)) (b role size : �
           let bitmaps = thin_bitmaps image none in
           let map = map_once graph image is_thin_bitmap fields.meta_map 8 9 10 known.lawful in_order bitmaps refl (thin_index (block_at image 0)) tree roots.meta_index roots.meta_overflow in
           let most = no_more graph image (data_parts graph image fields.data_map ++ map_parts graph image fields.meta_map 8 9 10)
-          (all_append (AreReachedOnce graph image) (data_parts graph image fields.data_map) (map_parts graph image fields.meta_map 8 9 10) data_once map)
+          (all_append (AreReachedOnce graph image) (data_parts graph image fields.data_map) (map_parts graph image fields.meta_map 8 9 10) (data_once image audit none known) map)
           (IsDistinct-from_count nat_eq_equiv (5 ∷ 6 ∷ 7 ∷ 8 ∷ 9 ∷ 10 ∷ []) refl) in
           let both = sum_by-append (λ (part : InRole). length part.blocks) (data_parts graph image fields.data_map) (map_parts graph image fields.meta_map 8 9 10) in
-          let first = data_number in
+          let first = data_number image audit none known in
           let second = map_number graph image is_thin_bitmap fields.meta_map 8 9 10 known.lawful in_order bitmaps refl (thin_index (block_at image 0)) tree roots.meta_index roots.meta_overflow
           (counted_meta Thin (block_at image 0)) in
           omega arith
 
-    -- a cache
-    few_cache : (image : List (List ℕ)) (audit : Audit) → faults Cache stages.Whole image ≡ [] → IsKnown (cache_graph (block_at image 0)) image audit
-        → count_reads Cache (block_at image 0) image ≤ length (nodes (cache_graph (block_at image 0)) image)
-    unfolding count_reads map_parts
-    few_cache image audit none known =
-        let graph = cache_graph (block_at image 0) in
-        let root = (cache_fields (block_at image 0)).meta_map in
-        let roots = cache_roots stages.Whole image tt none in
-        let tree = (cache_trees (block_at image 0)).meta_overflow in
-        let in_order = ordered Cache stages.Whole image tt none in
-        let bitmaps = cache_bitmaps image none in
-        let most = no_more graph image (map_parts graph image root 7 8 9)
-        (map_once graph image is_map_bitmap root 7 8 9 known.lawful in_order bitmaps refl (cache_index (block_at image 0)) tree roots.meta_index roots.meta_overflow)
-        (IsDistinct-from_count nat_eq_equiv (7 ∷ 8 ∷ 9 ∷ []) refl) in
-        let number = map_number graph image is_map_bitmap root 7 8 9 known.lawful in_order bitmaps refl (cache_index (block_at image 0)) tree roots.meta_index roots.meta_overflow
-        (counted_meta Cache (block_at image 0)) in
-        omega arith
+      -- of a cache
+      few_cache : (image : List (List ℕ)) (audit : Audit) → faults Cache stages.Whole image ≡ [] → IsKnown (cache_graph (block_at image 0)) image audit
+          → count_reads Cache (block_at image 0) image ≤ length (nodes (cache_graph (block_at image 0)) image)
+      unfolding count_reads map_parts
+      few_cache image audit none known =
+          let graph = cache_graph (block_at image 0) in
+          let root = (cache_fields (block_at image 0)).meta_map in
+          let roots = cache_roots stages.Whole image tt none in
+          let tree = (cache_trees (block_at image 0)).meta_overflow in
+          let in_order = ordered Cache stages.Whole image tt none in
+          let bitmaps = cache_bitmaps image none in
+          let most = no_more graph image (map_parts graph image root 7 8 9)
+          (map_once graph image is_map_bitmap root 7 8 9 known.lawful in_order bitmaps refl (cache_index (block_at image 0)) tree roots.meta_index roots.meta_overflow)
+          (IsDistinct-from_count nat_eq_equiv (7 ∷ 8 ∷ 9 ∷ []) refl) in
+          let number = map_number graph image is_map_bitmap root 7 8 9 known.lawful in_order bitmaps refl (cache_index (block_at image 0)) tree roots.meta_index roots.meta_overflow
+          (counted_meta Cache (block_at image 0)) in
+          omega arith
 
-    -- an era target
-    few_era : (image : List (List ℕ)) (audit : Audit) → faults Era stages.Whole image ≡ [] → IsKnown (era_graph (block_at image 0)) image audit
-        → count_reads Era (block_at image 0) image ≤ length (nodes (era_graph (block_at image 0)) image)
-    unfolding count_reads map_parts
-    few_era image audit none known =
-        let graph = era_graph (block_at image 0) in
-        let root = (era_fields (block_at image 0)).meta_map in
-        let roots = era_roots stages.Whole image tt none in
-        let tree = (era_trees (block_at image 0)).meta_overflow in
-        let in_order = ordered Era stages.Whole image tt none in
-        let bitmaps = era_bitmaps image none in
-        let most = no_more graph image (map_parts graph image root 7 8 9)
-        (map_once graph image is_map_bitmap root 7 8 9 known.lawful in_order bitmaps refl (era_index (block_at image 0)) tree roots.meta_index roots.meta_overflow)
-        (IsDistinct-from_count nat_eq_equiv (7 ∷ 8 ∷ 9 ∷ []) refl) in
-        let number = map_number graph image is_map_bitmap root 7 8 9 known.lawful in_order bitmaps refl (era_index (block_at image 0)) tree roots.meta_index roots.meta_overflow
-        (counted_meta Era (block_at image 0)) in
-        omega arith
+      -- of an era target
+      few_era : (image : List (List ℕ)) (audit : Audit) → faults Era stages.Whole image ≡ [] → IsKnown (era_graph (block_at image 0)) image audit
+          → count_reads Era (block_at image 0) image ≤ length (nodes (era_graph (block_at image 0)) image)
+      unfolding count_reads map_parts
+      few_era image audit none known =
+          let graph = era_graph (block_at image 0) in
+          let root = (era_fields (block_at image 0)).meta_map in
+          let roots = era_roots stages.Whole image tt none in
+          let tree = (era_trees (block_at image 0)).meta_overflow in
+          let in_order = ordered Era stages.Whole image tt none in
+          let bitmaps = era_bitmaps image none in
+          let most = no_more graph image (map_parts graph image root 7 8 9)
+          (map_once graph image is_map_bitmap root 7 8 9 known.lawful in_order bitmaps refl (era_index (block_at image 0)) tree roots.meta_index roots.meta_overflow)
+          (IsDistinct-from_count nat_eq_equiv (7 ∷ 8 ∷ 9 ∷ []) refl) in
+          let number = map_number graph image is_map_bitmap root 7 8 9 known.lawful in_order bitmaps refl (era_index (block_at image 0)) tree roots.meta_index roots.meta_overflow
+          (counted_meta Era (block_at image 0)) in
+          omega arith
 
-    -- so it is no more than the reachable pairs
-    few_of : (kind : Kind) (image : List (List ℕ)) (audit : Audit) → faults kind stages.Whole image ≡ [] → IsKnown (graph_of_super kind (block_at image 0)) image audit
-        → count_reads kind (block_at image 0) image ≤ length (nodes (graph_of_super kind (block_at image 0)) image)
-    few_of Thin image audit none known = few_thin image audit none known
-    few_of Cache image audit none known = few_cache image audit none known
-    few_of Era image audit none known = few_era image audit none known
+      -- of any kind
+      few_of : (kind : Kind) (image : List (List ℕ)) (audit : Audit) → faults kind stages.Whole image ≡ [] → IsKnown (graph_of_super kind (block_at image 0)) image audit
+          → count_reads kind (block_at image 0) image ≤ length (nodes (graph_of_super kind (block_at image 0)) image)
+      few_of Thin image audit none known = few_thin image audit none known
+      few_of Cache image audit none known = few_cache image audit none known
+      few_of Era image audit none known = few_era image audit none known
 
-    pub few : (kind : Kind) (first : List ℕ) (image : List (List ℕ)) (audit : Audit) → IsWhole kind first image audit
-        → count_reads kind first image ≤ length (nodes (graph_of_super kind first) image)
-    few kind first image audit whole =
-        subst (λ (m : List ℕ). count_reads kind m image ≤ length (nodes (graph_of_super kind m) image)) whole.first_block
-        (few_of kind image audit whole.none (subst (λ (m : List ℕ). IsKnown (graph_of_super kind m) image audit) (sym whole.first_block) whole.known))
+      pub few : (kind : Kind) (first : List ℕ) (image : List (List ℕ)) (audit : Audit) → IsWhole kind first image audit
+          → count_reads kind first image ≤ length (nodes (graph_of_super kind first) image)
+      few kind first image audit whole =
+          subst (λ (m : List ℕ). count_reads kind m image ≤ length (nodes (graph_of_super kind m) image)) whole.first_block
+          (few_of kind image audit whole.none (subst (λ (m : List ℕ). IsKnown (graph_of_super kind m) image audit) (sym whole.first_block) whole.known))

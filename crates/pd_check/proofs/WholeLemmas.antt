@@ -25,7 +25,7 @@ use Rattle.pd_whole.specs.Charges.{Charges}
 use Rattle.pd_whole.specs.Known.{IsWellSettled, IsKnown}
 use Rattle.pd_check.specs.ByKind.{super_bad_of, graph_of_super}
 use Rattle.pd_check.specs.Check.{IsFirstBlock, goes_past_walk, past_faults}
-use Rattle.pd_check.specs.Counts.{count_reads}
+use Rattle.pd_check.specs.Counts.{ClaimsFew, count_reads}
 use Rattle.pd_check.specs.Whole.{IsOrdered, IsWhole}
 use Rattle.pd_check.proofs.CheckLemmas.{first_at, same_graph, past_report}
 use Rattle.pd_check.proofs.StageLemmas.{up_to_whole, up_to_counts}
@@ -159,13 +159,23 @@ settled_from P held later until graph audit report stays walked leads =
     (subst (λ (o : Option (List (List ℕ))). IfSome o (λ image. IsWalked graph image audit → report.total ≡ 0 → P image)) stays leads)
 
 -- a report with faults up to the stage Whole is that of the check up to the stage Counts
-pub counts_first : (held : Option (List (List ℕ))) (kind : Kind) (report : Reported) → (report.total ≡ 0 → ⊥)
-    → IfSome held (λ image. report ≡ report_of (faults kind Whole image)) → IfSome held (λ image. report ≡ report_of (faults kind Counts image))
-counts_first held kind report some told =
-    IfSome_then held told (λ image is.
+told_first : (kind : Kind) (image : List (List ℕ)) (report : Reported) → (report.total ≡ 0 → ⊥) → report ≡ report_of (faults kind Whole image) → report ≡ report_of (faults kind Counts image)
+told_first kind image report some is =
     let total = ap (λ (r : Reported). r.total) is in
     is ∙ ap (λ (list : List Fault). report_of list)
-    (sym (up_to_counts kind image ∙ chosen_where (nat_lt 0 (length (faults kind Whole image))) (faults kind Whole image) _ refl (λ none. some (total ∙ none)))))
+    (sym (up_to_counts kind image ∙ chosen_where (nat_lt 0 (length (faults kind Whole image))) (faults kind Whole image) _ refl (λ none. some (total ∙ none))))
+
+pub counts_first : (held : Option (List (List ℕ))) (kind : Kind) (report : Reported) → (report.total ≡ 0 → ⊥)
+    → IfSome held (λ image. report ≡ report_of (faults kind Whole image)) → IfSome held (λ image. report ≡ report_of (faults kind Counts image))
+counts_first held kind report some told = IfSome_then held told (λ image is. told_first kind image report some is)
+
+-- and so is one where the superblock claims too many data blocks: it has faults
+pub counts_claimed : (held : Option (List (List ℕ))) (kind : Kind) (first : List ℕ) (audit : Audit) (report : Reported) → (ClaimsFew kind first → ⊥)
+    → ((kind : Kind) (first : List ℕ) (image : List (List ℕ)) (audit : Audit) → IsWhole kind first image audit → ClaimsFew kind first)
+    → IfSome held (λ image. report.total ≡ 0 → IsWhole kind first image audit)
+    → IfSome held (λ image. report ≡ report_of (faults kind Whole image)) → IfSome held (λ image. report ≡ report_of (faults kind Counts image))
+counts_claimed held kind first audit report many few known told =
+    if_both held (λ image knows is. told_first kind image report (λ none. many (few kind first image audit (knows none))) is) known told
 
 -- and where there are none, it is that of the counts
 pub counts_second : (Seen : List (List ℕ) → Type 0) (held later : Option (List (List ℕ))) (kind : Kind) (first : List ℕ) (audit : Audit) (report : Reported) (result : Result Report CheckFault) → later ≡ held → report.total ≡ 0

@@ -1,5 +1,5 @@
 -- The counts of metadata blocks and of data blocks: their faults, and how much is read to find them.
-use Rattle.std.specs.Prelude.{ℕ, ◌+◌, List, length, Option, Some, None}
+use Rattle.std.specs.Prelude.{ℕ, ◌+◌, ◌≤◌, List, length, Option, Some, None, IfSome}
 use Rattle.std.specs.List.{flat_map, range_with_len}
 use Rattle.pd_kinds.specs.declared.kind.Kind.{Kind}
 use Rattle.pd_kinds.specs.declared.fault.Fault.{Fault}
@@ -10,7 +10,7 @@ use Rattle.pd_kinds.specs.Graph.{meta_count, data_count}
 use Rattle.pd_kinds.specs.Stages.{Checked, count_fault}
 use Rattle.pd_tree.specs.Below.{nodes_below}
 use Rattle.pd_check.specs.declared.data_space.DataSpace.{DataSpace}
-use Rattle.pd_check.specs.ByKind.{meta_map_of, data_space_of}
+use Rattle.pd_check.specs.ByKind.{graph_of_super, meta_map_of, data_space_of}
 
 -- the faults of the counts of metadata blocks, and of those of data blocks
 unfoldable pub meta_faults : Checked → List (List ℕ) → List Fault
@@ -39,3 +39,7 @@ space_reads (Some space) image = data_reads space image
 -- and for both
 unfoldable pub count_reads : Kind → List ℕ → List (List ℕ) → ℕ
 count_reads kind first image = meta_reads (meta_map_of kind first) image + space_reads (data_space_of kind first) image
+
+-- the data blocks that a superblock claims need no more bitmaps than there are metadata blocks
+abbrev pub ClaimsFew : Kind → List ℕ → Type 0
+ClaimsFew kind first = IfSome (data_space_of kind first) (λ space. bitmaps_for space.root.blocks ≤ (graph_of_super kind first).nr)

@@ -13,7 +13,7 @@ ghost use Rattle.pd_graph.specs.Watch.{no_pairs};
 ghost use Rattle.pd_whole.specs.Counter.{HasSeen, data_blocks_of};
 ghost use Rattle.pd_smap.specs.Reports.{Adds};
 ghost use Rattle.pd_check.specs.ByKind.{data_space_of, graph_of_super, meta_map_of};
-ghost use Rattle.pd_check.specs.Counts.{count_reads, data_faults, data_reads, meta_faults, meta_reads, space_reads};
+ghost use Rattle.pd_check.specs.Counts.{ClaimsFew, count_reads, data_faults, data_reads, meta_faults, meta_reads, space_reads};
 ghost use Rattle.pd_check.specs.Whole.{IsWhole};
 
 use crate::data_space::DataSpace;
@@ -26,12 +26,14 @@ use pd_tree::{formats_have_trees, reached_trees_are_sound, superblocks_lead_to_r
 use pd_whole::RefCounter;
 use std::alloc::{AllocError, Global};
 
-/// A counter of the references to data blocks, where this is block 0; it counts none where this kind has none. Want of
-/// memory is the only error.
+/// A counter of the references to data blocks, where this is block 0; it counts none where this kind has none. It takes
+/// 32 bytes for each metadata block at the most, whatever block 0 claims, and more as counts come. Want of memory is the
+/// only error.
 pub(crate) fn ref_counter<M: Metadata>(
     alloc: Global,
     first: &Block,
 ) -> Result<RefCounter, AllocError>
+    requires few { ClaimsFew M.kind first.now.0 }
     ensures size { IfOk result (λ counter. data_blocks_of counter ≡ (graph_of_super M.kind first.now.0).data_blocks) }
     ensures unseen { IfOk result (λ counter. (image : List (List ℕ)) → HasSeen counter (graph_of_super M.kind first.now.0) image no_pairs) }
 {

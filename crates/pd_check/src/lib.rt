@@ -4,6 +4,7 @@
 
 mod both;
 mod checking;
+mod claims;
 mod counts;
 mod data_space;
 mod later_stages;

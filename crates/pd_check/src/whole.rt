@@ -20,6 +20,7 @@ ghost use Rattle.pd_check.specs.Check.{IsFirstBlock, reads_of};
 ghost use Rattle.pd_check.specs.Whole.{IsOrdered, IsWhole};
 
 use crate::both::Both;
+use crate::claims::{bitmaps_are_no_more_than_blocks, claims_few};
 use crate::counts::{count_report, ref_counter};
 use crate::later_stages::walk_and_settle;
 use crate::metadata::Metadata;
@@ -128,6 +129,9 @@ pub(crate) fn check_whole_watched<M: Metadata, D: Device, W: Watch + Drop>(
 /// Looks at all that block 0, which breaks no rule, leads to, and where no block breaks a rule up to those of the
 /// whole image, compares the stored counts with the references.
 ///
+/// Where the data blocks that block 0 claims need more bitmaps than there are metadata blocks, some block breaks such a
+/// rule. Then it makes no counter of references, and the report is that of the rules up to there.
+///
 /// Fails with `CheckFault::Memory` where memory wasn't found, and with `CheckFault::Device` where a read failed.
 #[inline(never)]
 pub(crate) fn check_counts<M: Metadata, D: Device>(
@@ -147,6 +151,13 @@ pub(crate) fn check_counts<M: Metadata, D: Device>(
     ensures faults { CountsCheckFault result (D.state dev.old).faults (D.state dev.new).faults }
 {
     counts_read_no_more_than_nodes();
+    bitmaps_are_no_more_than_blocks();
+    if !claims_few::<M>(first) {
+        let (_audit, report, _watch) = check_whole_watched::<M, D, NoWatch>(
+            alloc, dev, first, blocks, NoWatch,
+        )?;
+        return Ok(report);
+    }
     let counter = match ref_counter::<M>(alloc, first) {
         Ok(counter) => counter,
         Err(_) => return Err(CheckFault::Memory),

@@ -1,8 +1,14 @@
 use Rattle.std.proofs.Common.{sym, ◌∙◌, eq-eqb}
 use Rattle.std.proofs.lemmas.Bool.{eqb-true, both_ways}
 use Rattle.pd_check.proofs.CountLemmas.{few_counted}
-use Rattle.pd_check.proofs.WholeLemmas.{counts_first, counts_second, counts_reads}
+use Rattle.pd_check.proofs.WholeLemmas.{counts_claimed, counts_first, counts_second, counts_reads}
 use Rattle.pd_check.proofs.whole.check_counts.Goals as goal
+
+pub returns-then-not-claims_few-clause-report : goal.returns-then-not-claims_few-clause-report
+returns-then-not-claims_few-clause-report g c =
+    counts_claimed _ g.M.Metadata.kind c.args.first.now.0 c.in_ok-_audit._audit c.in_ok-_audit.report
+    (λ few. both_ways c.claims_few.result c.if-not-claims_few.true (c.claims_few.ensures.1 few))
+    c.bitmaps_are_no_more_than_blocks.ensures c.in_ok-_audit.ensures.whole c.in_ok-_audit.ensures.report
 
 pub returns-then-not-is_empty-clause-report : goal.returns-then-not-is_empty-clause-report
 returns-then-not-is_empty-clause-report g c =
