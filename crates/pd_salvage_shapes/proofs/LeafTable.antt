@@ -76,7 +76,7 @@ module _ (blocks : ℕ) (places : List ℕ) (notes : List Note) (are : AreNotes 
 
   pub all_mets_true : (seen : List Seen) → AllByRecursion (HasItsMappings f) (all_mets notes seen)
   all_mets_true [] = tt
-  all_mets_true (d ∷ seen) = both_true (mets_of notes d.met.items) (all_mets notes seen) (mets_true d.met.items) (all_mets_true seen)
+  all_mets_true (d ∷ seen) = both_true (mets_of notes d.met) (all_mets notes seen) (mets_true d.met) (all_mets_true seen)
 
   -- a leaf that was met stands in the table
   module _ (b : ℕ) where
@@ -115,9 +115,9 @@ module _ (blocks : ℕ) (places : List ℕ) (notes : List Note) (are : AreNotes 
     pub all_stand : (seen : List Seen) → 1 ≤ counted (leaves_of (all_mets notes seen)) → IsLeaf b
     all_stand [] some = absurd (omega arith)
     all_stand (d ∷ seen) some =
-        let split = ap counted (leaves_append (mets_of notes d.met.items) (all_mets notes seen)) ∙ counted_both (leaves_of (mets_of notes d.met.items)) (leaves_of (all_mets notes seen)) in
-        elim (cases_lt 0 (counted (leaves_of (mets_of notes d.met.items)))) [
-          | inl here ↦ mets_stand d.met.items here
+        let split = ap counted (leaves_append (mets_of notes d.met) (all_mets notes seen)) ∙ counted_both (leaves_of (mets_of notes d.met)) (leaves_of (all_mets notes seen)) in
+        elim (cases_lt 0 (counted (leaves_of (mets_of notes d.met)))) [
+          | inl here ↦ mets_stand d.met here
           | inr later ↦ all_stand seen (omega arith)
         ]
 

@@ -1,3 +1,4 @@
+pub mod NumberLemmas
 pub mod UseLemmas
 pub mod TopLemmas
 pub mod DeviceLemmas

@@ -21,9 +21,9 @@ module _ (blocks : ℕ) (old new : List Note) (grow : Grow old new) where
 
   pub seen_grown : (d : Seen) → IsSeen blocks old d → IsSeen blocks new d
   seen_grown d is =
-      let same = mets_grow old new d.met.items grow is.within in
+      let same = mets_grow old new d.met grow is.within in
       record {
-        within = all_weaker (λ k. k < length old) (λ k. k < length new) within_grown d.met.items is.within;
+        within = all_weaker (λ k. k < length old) (λ k. k < length new) within_grown d.met is.within;
         lawful = rw same is.lawful;
         counted = rw same is.counted;
         fits = is.fits;
@@ -32,7 +32,7 @@ module _ (blocks : ℕ) (old new : List Note) (grow : Grow old new) where
   pub mets_grown : (seen : List Seen) → AllByRecursion (IsSeen blocks old) seen → mets_of_seen new seen ≡ mets_of_seen old seen
   mets_grown [] all = refl
   mets_grown (d ∷ seen) all =
-      ap₂ (λ (m : List Met) (ms : List (List Met)). m ∷ ms) (mets_grow old new d.met.items grow all.0.within) (mets_grown seen all.1)
+      ap₂ (λ (m : List Met) (ms : List (List Met)). m ∷ ms) (mets_grow old new d.met grow all.0.within) (mets_grown seen all.1)
 
 -- no device
 pub sees_none : (held : Option (List (List ℕ))) (v : Visiting) → HasTable v → SeesAll held [] [] v v
@@ -63,7 +63,7 @@ module _ (held : Option (List (List ℕ))) (tops : List Top) (i : ℕ) (seen : L
         let was = before tells in
         let is = here was.0 in (
           is.0,
-          map-append (λ (d : Seen). mets_of new.notes.items d.met.items) seen (one ∷ [])
+          map-append (λ (d : Seen). mets_of new.notes.items d.met) seen (one ∷ [])
               ∙ (ap₂ (λ (xs ys : List (List Met)). xs ++ ys)
               (mets_grown first.s.data_map.blocks old.notes.items new.notes.items device.grow seen sees.lawful ∙ was.1)
               (ap (λ (ms : List Met). ms ∷ []) (is.1 ∙ rw sees.same refl))

@@ -106,13 +106,13 @@ module _ (fields : ThinFields) (places : List ℕ) (notes : List Note) (tops : L
   pieces_are : (ts : List Top) (ds : List Seen) → AllByRecursion (λ (d : ShapeDevice). ArePieces (length ones) d.pieces) (shaped_devices ones notes ts ds)
   pieces_are [] ds = tt
   pieces_are (t ∷ ts) [] = tt
-  pieces_are (t ∷ ts) (d ∷ ds) = (mets_are f ones (mets_of notes d.met.items), pieces_are ts ds)
+  pieces_are (t ∷ ts) (d ∷ ds) = (mets_are f ones (mets_of notes d.met), pieces_are ts ds)
 
   devices_are : (least : ℕ) (ts : List Top) (ds : List Seen) → AreTops least ts → AllByRecursion (IsSeen pool notes) ds → AreDevices pool least (map (device_of (map f ones)) (shaped_devices ones notes ts ds))
   devices_are least [] ds tops seen = tt
   devices_are least (t ∷ ts) [] tops seen = tt
   devices_are least (t ∷ ts) (d ∷ ds) tops seen =
-      let mean = mets_mean f ones (mets_of notes d.met.items) (mets_true pool places notes notes_are d.met.items) in (
+      let mean = mets_mean f ones (mets_of notes d.met) (mets_true pool places notes notes_are d.met) in (
         record {
           above = tops.0;
           id_fits = tops.1.id;
@@ -135,9 +135,9 @@ module _ (fields : ThinFields) (places : List ℕ) (notes : List Note) (tops : L
     uses_counted (t ∷ ts) [] same = absurd (omega arith)
     uses_counted (t ∷ ts) (d ∷ ds) same =
         let both = sum_by-append (λ used. cond {A = ℕ} (nat_eq used k) 1 0) (uses_of (shaped_device ones notes t d)) (flat_map uses_of (shaped_devices ones notes ts ds)) in
-        let all = ap (count_by (λ c. nat_eq c (get_or ones k 0))) (leaves_append (mets_of notes d.met.items) (all_mets notes ds)) in
-        let parts = sum_by-append (λ c. cond {A = ℕ} (nat_eq c (get_or ones k 0)) 1 0) (leaves_of (mets_of notes d.met.items)) (leaves_of (all_mets notes ds)) in
-        let first = mets_counted f ones ascend k within (mets_of notes d.met.items) in
+        let all = ap (count_by (λ c. nat_eq c (get_or ones k 0))) (leaves_append (mets_of notes d.met) (all_mets notes ds)) in
+        let parts = sum_by-append (λ c. cond {A = ℕ} (nat_eq c (get_or ones k 0)) 1 0) (leaves_of (mets_of notes d.met)) (leaves_of (all_mets notes ds)) in
+        let first = mets_counted f ones ascend k within (mets_of notes d.met) in
         let rest = uses_counted ts ds (omega arith) in
         omega (arith, both, all, parts, first, rest)
 

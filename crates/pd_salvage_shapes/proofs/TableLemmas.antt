@@ -77,7 +77,7 @@ module _ (blocks nr : ℕ) (places : List ℕ) (notes : List Note) (few : blocks
   seen_within [] all i d at = absurd (cc)
   seen_within (e ∷ seen) all zero d at =
       let same : e ≡ d = cc in
-      subst (λ (x : Seen). AreWithin notes x.met.items) same (all_index (λ k. k < length notes) e.met.items all.0.within)
+      subst (λ (x : Seen). AreWithin notes x.met) same (all_index (λ k. k < length notes) e.met all.0.within)
   seen_within (e ∷ seen) all (suc i) d at = seen_within seen all.1 i d at
 
   pub uses_named : (seen : List Seen) (uses : List ℕ) → AreUses (leaves_of (all_mets notes seen)) uses → AreNamed uses places notes

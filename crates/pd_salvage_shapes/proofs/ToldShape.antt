@@ -131,17 +131,17 @@ module _ (fields : ThinFields) (image : List (List ℕ)) where
     tops_mets [] (d ∷ seen) same = absurd (cc)
     tops_mets (t ∷ tops) [] same = absurd (cc)
     tops_mets (t ∷ tops) (d ∷ seen) same =
-        let both = head_is (mets_of notes d.met.items) (mets_of_root fields image t.root) (mets_of_seen notes seen) (mets_of_tops fields image tops) same in
+        let both = head_is (mets_of notes d.met) (mets_of_root fields image t.root) (mets_of_seen notes seen) (mets_of_tops fields image tops) same in
         ap₂ (λ (xs ys : List Met). xs ++ ys) (both.0 ∙ root_mets t.root) (tops_mets tops seen both.1)
         ∙ sym (flat_map-append met (device_visits fields image (entry_of_top t)) (flat_map (device_visits fields image) (map entry_of_top tops)))
 
     -- a device with its pieces
-    device_told : (ones : List ℕ) (t : Top) (d : Seen) → HasDetails fields image t → IsSeen fields.data_map.blocks notes d → mets_of notes d.met.items ≡ mets_of_root fields image t.root
+    device_told : (ones : List ℕ) (t : Top) (d : Seen) → HasDetails fields image t → IsSeen fields.data_map.blocks notes d → mets_of notes d.met ≡ mets_of_root fields image t.root
         → ones ≡ saved_shared fields image → shaped_device ones notes t d ≡ saved_device_shape fields image (entry_of_top t)
     unfolding salvaged_device
     device_told ones t d details seen same shared_ones =
         let mapped : d.mapped ≡ length (salvaged_mappings fields image t.root) = seen.counted ∙ ap length (ap maps same ∙ root_maps t.root) in
-        let pieces : pieces_of_mets ones (mets_of notes d.met.items) ≡ pieces_of_visits fields image (saved_shared fields image) (device_visits fields image (entry_of_top t)) =
+        let pieces : pieces_of_mets ones (mets_of notes d.met) ≡ pieces_of_visits fields image (saved_shared fields image) (device_visits fields image (entry_of_top t)) =
         ap (pieces_of_mets ones) (same ∙ root_mets t.root)
         ∙ (visits_pieces ones (device_visits fields image (entry_of_top t))
         ∙ ap (λ (xs : List ℕ). pieces_of_visits fields image xs (device_visits fields image (entry_of_top t))) shared_ones) in
@@ -152,7 +152,7 @@ module _ (fields : ThinFields) (image : List (List ℕ)) where
     devices_told ones [] seen same details lawful shared_ones = refl
     devices_told ones (t ∷ tops) [] same details lawful shared_ones = absurd (cc)
     devices_told ones (t ∷ tops) (d ∷ seen) same details lawful shared_ones =
-        let both = head_is (mets_of notes d.met.items) (mets_of_root fields image t.root) (mets_of_seen notes seen) (mets_of_tops fields image tops) same in
+        let both = head_is (mets_of notes d.met) (mets_of_root fields image t.root) (mets_of_seen notes seen) (mets_of_tops fields image tops) same in
         ap₂ (λ (x : ShapeDevice) (xs : List ShapeDevice). x ∷ xs) (device_told ones t d details.0 lawful.0 both.0 shared_ones) (devices_told ones tops seen both.1 details.1 lawful.1 shared_ones)
 
     module _ (tops : List Top) (seen : List Seen) (tells : TellsTops fields image tops) (lawful : AllByRecursion (IsSeen fields.data_map.blocks notes) seen)

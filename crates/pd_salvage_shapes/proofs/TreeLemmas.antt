@@ -91,7 +91,7 @@ ended_all image all v depth is =
     (is.tells, sym (append-nil (mets_now v)) ∙ (rw none at is.mets))
 
 -- what was met of a tree is what was met of its device
-pub seen_tree : (held : Option (List (List ℕ))) (root : ℕ) (seen : Seen) (old new : Visiting) → MeetsTree held root old new → seen.met.items ≡ new.met.items → seen.mapped ≡ new.mapped → seen.mapped < 2 ^ 64
+pub seen_tree : (held : Option (List (List ℕ))) (root : ℕ) (seen : Seen) (old new : Visiting) → MeetsTree held root old new → seen.met ≡ new.met.items → seen.mapped ≡ new.mapped → seen.mapped < 2 ^ 64
     → SeesDevice held root seen old new
 seen_tree held root seen old new tree met mapped fits = record {
   same = tree.same;

@@ -70,12 +70,12 @@ note_uses uses blocks notes met i k note within is at are =
     ∙ ap (λ (xs : List ℕ). blocks ++ xs) (sym (ap leaves_of one ∙ leaves_append (mets_of notes (take i met)) (met_of_note note)))) are
 
 pub device_uses : (uses : List ℕ) (notes : List Note) (seen : List Seen) (i : ℕ) (d : Seen) → i < length seen → d ≡ get_or seen i d
-    → AreUses (leaves_of (all_mets notes (take i seen)) ++ leaves_of (mets_of notes d.met.items)) uses → AreUses (leaves_of (all_mets notes (take (i + 1) seen))) uses
+    → AreUses (leaves_of (all_mets notes (take i seen)) ++ leaves_of (mets_of notes d.met)) uses → AreUses (leaves_of (all_mets notes (take (i + 1) seen))) uses
 device_uses uses notes seen i d within is are =
-    let one : all_mets notes (take (i + 1) seen) ≡ all_mets notes (take i seen) ++ mets_of notes d.met.items =
+    let one : all_mets notes (take (i + 1) seen) ≡ all_mets notes (take i seen) ++ mets_of notes d.met =
     ap (all_mets notes) (take_more seen i d within ∙ ap (λ (e : Seen). take i seen ++ e ∷ []) (sym is))
-    ∙ (flat_map-append (λ (e : Seen). mets_of notes e.met.items) (take i seen) (d ∷ []) ∙ ap (λ (ms : List Met). all_mets notes (take i seen) ++ ms) (append-nil (mets_of notes d.met.items))) in
-    subst (λ (xs : List ℕ). AreUses xs uses) (sym (ap leaves_of one ∙ leaves_append (all_mets notes (take i seen)) (mets_of notes d.met.items))) are
+    ∙ (flat_map-append (λ (e : Seen). mets_of notes e.met) (take i seen) (d ∷ []) ∙ ap (λ (ms : List Met). all_mets notes (take i seen) ++ ms) (append-nil (mets_of notes d.met))) in
+    subst (λ (xs : List ℕ). AreUses xs uses) (sym (ap leaves_of one ∙ leaves_append (all_mets notes (take i seen)) (mets_of notes d.met))) are
 
 -- no use
 pub none_used : (blocks : ℕ) (uses : List ℕ) → uses ≡ replicate blocks 0 → AreUses [] uses

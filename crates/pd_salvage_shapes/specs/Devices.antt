@@ -21,7 +21,7 @@ shaped_device ones notes t d = record {
   transaction = t.details.transaction;
   created = t.details.created;
   snapped = t.details.snapped;
-  pieces = pieces_of_mets ones (mets_of notes d.met.items);
+  pieces = pieces_of_mets ones (mets_of notes d.met);
 }
 
 abbrev pub shaped_devices : List ℕ → List Note → List Top → List Seen → List ShapeDevice
@@ -38,7 +38,7 @@ pub record TakesDevice (notes : List Note) (numbers met : List ℕ) (count : ℕ
 -- a device was added
 pub record AddsDevice (notes : List Note) (numbers : List ℕ) (t : Top) (d : Seen) (old new : ShapedDevices) : Type 0 where
   pub count : ℕ
-  pub takes : TakesDevice notes numbers d.met.items count old.piecing new.piecing
+  pub takes : TakesDevice notes numbers d.met count old.piecing new.piecing
   pub added : new.devices.items ≡ old.devices.items ++ record { id = t.id; details = record t.details { mapped = d.mapped }; pieces = count } ∷ []
 
 -- the pieces and the runs of these devices

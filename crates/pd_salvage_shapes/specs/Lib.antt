@@ -1,3 +1,4 @@
+pub mod Numbers
 pub mod Mets
 pub mod Note
 pub mod Pieces

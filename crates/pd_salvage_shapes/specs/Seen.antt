@@ -11,7 +11,7 @@ use Rattle.pd_salvage_shapes.specs.Visiting.{HasTable, IsSeen, TellsAll, mets_of
 
 -- what was met of each
 abbrev pub mets_of_seen : List Note → List Seen → List (List Met)
-mets_of_seen notes seen = map (λ (d : Seen). mets_of notes d.met.items) seen
+mets_of_seen notes seen = map (λ (d : Seen). mets_of notes d.met) seen
 
 abbrev pub mets_of_tops : ThinFields → List (List ℕ) → List Top → List (List Met)
 mets_of_tops fields image tops = map (λ (t : Top). mets_of_root fields image t.root) tops

@@ -29,7 +29,7 @@ AreWithin notes met = (i : ℕ) → i < length met → slice_index met i < lengt
 
 -- all that was met
 abbrev pub all_mets : List Note → List Seen → List Met
-all_mets notes seen = flat_map (λ (d : Seen). mets_of notes d.met.items) seen
+all_mets notes seen = flat_map (λ (d : Seen). mets_of notes d.met) seen
 
 abbrev pub AllWithin : List Note → List Seen → Type 0
-AllWithin notes seen = (i : ℕ) (d : Seen) → slice_get seen i ≡ Some d → AreWithin notes d.met.items
+AllWithin notes seen = (i : ℕ) (d : Seen) → slice_get seen i ≡ Some d → AreWithin notes d.met

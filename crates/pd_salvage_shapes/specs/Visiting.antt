@@ -182,9 +182,9 @@ pub record MeetsTree (held : Option (List (List ℕ))) (root : ℕ) (old new : V
 
 -- what was met of a device is lawful
 pub record IsSeen (blocks : ℕ) (notes : List Note) (seen : Seen) : Type 0 where
-  pub within : AllByRecursion (λ k. k < length notes) seen.met.items
-  pub lawful : AreMappings blocks 0 (maps (mets_of notes seen.met.items))
-  pub counted : seen.mapped ≡ length (maps (mets_of notes seen.met.items))
+  pub within : AllByRecursion (λ k. k < length notes) seen.met
+  pub lawful : AreMappings blocks 0 (maps (mets_of notes seen.met))
+  pub counted : seen.mapped ≡ length (maps (mets_of notes seen.met))
   pub fits : seen.mapped < 2 ^ 64
 
 pub record SeesDevice (held : Option (List (List ℕ))) (root : ℕ) (seen : Seen) (old new : Visiting) : Type 0 where
@@ -192,4 +192,4 @@ pub record SeesDevice (held : Option (List (List ℕ))) (root : ℕ) (seen : See
   pub table : HasTable new
   pub grow : Grow old.notes.items new.notes.items
   pub lawful : IsSeen old.s.data_map.blocks new.notes.items seen
-  pub told : IfSome held (λ image. TellsAll image old → TellsAll image new × (mets_of new.notes.items seen.met.items ≡ mets_of_root old.s image root))
+  pub told : IfSome held (λ image. TellsAll image old → TellsAll image new × (mets_of new.notes.items seen.met ≡ mets_of_root old.s image root))

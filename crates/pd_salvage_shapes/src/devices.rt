@@ -6,6 +6,7 @@ ghost use Rattle.pd_salvage_shapes.specs.Pieces.{AreNumbers};
 ghost use Rattle.pd_salvage_shapes.specs.Uses.{AllWithin, AreSized};
 
 use crate::note::Note;
+use crate::numbers::Numbers;
 use crate::pieces::Piecing;
 use crate::tops::Top;
 use crate::visiting::Seen;
@@ -30,19 +31,19 @@ impl ShapedDevices {
     /// Adds a device with what it met.
     fn add(
         &mut self,
+        alloc: Global,
         notes: &[Note],
         numbers: &[u32],
         top: &Top,
         seen: &Seen,
     ) -> Result<(), AllocError>
         requires sized { AreSized (length numbers.now) notes.now }
-        requires within { AreWithin notes.now seen.now.met.items }
+        requires within { AreWithin notes.now seen.now.met }
         requires idle { IsIdle self.old.piecing }
         ensures { OnOk result (AddsDevice notes.now numbers.now top.now seen.now self.old self.new) }
     {
-        let pieces = self
-            .piecing
-            .take_device(notes, numbers, seen.met.as_slice())?;
+        let met = seen.met.list(alloc)?;
+        let pieces = self.piecing.take_device(notes, numbers, met.as_slice())?;
         self.devices.push(ShapedDevice {
             id: top.id,
             details: Details {
@@ -61,7 +62,7 @@ impl ShapedDevices {
 fn count_met(seen: &[Seen]) -> usize {
     let mut count = 0usize;
     for device in seen {
-        count = count.saturating_add(device.met.len());
+        count = count.saturating_add(device.met.count());
     }
     count
 }
@@ -86,11 +87,11 @@ pub(crate) fn shape_devices(
     };
     for i in 0..tops.len() {
         let none = Seen {
-            met: Vec::new(alloc),
+            met: Numbers::none(alloc),
             mapped: 0,
         };
         let one = mem::replace(&mut seen[i], none);
-        shaped.add(notes, numbers, &tops[i], &one)?;
+        shaped.add(alloc, notes, numbers, &tops[i], &one)?;
     }
     Ok(shaped)
 }

@@ -6,6 +6,7 @@
 
 mod devices;
 mod note;
+mod numbers;
 mod pieces;
 mod seen;
 mod shape;

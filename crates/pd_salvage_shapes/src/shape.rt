@@ -24,8 +24,8 @@ use std::alloc::{AllocError, Global};
 /// What is saved of the pool with this superblock, with the leaves that its devices share.
 ///
 /// An inner node is read once for each device and range of keys that isn't empty. A leaf is read once, and once more for
-/// each range that cuts it. While this works, the runs of each are held once, and of each device 4 bytes for each leaf that
-/// it met, until its pieces are made. Room for the pieces is taken at once: 4 bytes for each leaf that a device met.
+/// each range that cuts it. While this works, the runs of each are held once, and of each device the numbers of the leaves that it
+/// met: 8 bytes for those in a row. Room for the pieces is taken at once: 4 bytes for each leaf that a device met.
 ///
 /// Fails with `Device` where a read failed, and with `Memory` where memory wasn't found.
 pub fn salvage_shape<D: Device>(

@@ -1,6 +1,6 @@
 //! How often leaves are met whole.
 
-ghost use Rattle.std.specs.Prelude.{◌≡◌, ℕ, ◌+◌, ◌<◌, ◌≤◌, ◌++◌, ◌∷◌, List, [], true, length, min, replicate, IfOk};
+ghost use Rattle.std.specs.Prelude.{◌≡◌, ℕ, ◌+◌, ◌<◌, ◌≤◌, ◌++◌, ◌∷◌, List, [], true, length, min, replicate, IfOk, OnOk};
 ghost use Rattle.pd_salvage_shapes.specs.Note.{met_of_note, noted};
 ghost use Rattle.pd_salvage_shapes.specs.Uses.{AllWithin, AreSized, AreUses, AreWithin, all_mets, leaves_of};
 ghost use Rattle.pd_salvage_shapes.specs.Visiting.{mets_of};
@@ -52,17 +52,24 @@ fn count_device(uses: &mut [u8], notes: &[Note], met: &[u32])
     }
 }
 
-/// Counts what devices met.
-fn count_devices(uses: &mut [u8], notes: &[Note], seen: &[Seen])
+/// Counts what devices met. Want of memory is the only error.
+fn count_devices(
+    alloc: Global,
+    uses: &mut [u8],
+    notes: &[Note],
+    seen: &[Seen],
+) -> Result<(), AllocError>
     requires sized { AreSized (length uses.old) notes.now }
     requires within { AllWithin notes.now seen.now }
     requires none { AreUses [] uses.old }
-    ensures counted { AreUses (leaves_of (all_mets notes.now seen.now)) uses.new }
+    ensures counted { OnOk result (AreUses (leaves_of (all_mets notes.now seen.now)) uses.new) }
     ensures same { length uses.new ≡ length uses.old }
 {
     for device in seen {
-        count_device(uses, notes, device.met.as_slice());
+        let met = device.met.list(alloc)?;
+        count_device(uses, notes, met.as_slice());
     }
+    Ok(())
 }
 
 /// Counts what devices met, for so many blocks.
@@ -79,7 +86,7 @@ pub(crate) fn count_all(
     ensures number { IfOk result (λ uses. length uses.items ≡ blocks) }
 {
     let mut uses = no_uses(alloc, blocks)?;
-    count_devices(uses.as_mut_slice(), notes, seen);
+    count_devices(alloc, uses.as_mut_slice(), notes, seen)?;
     Ok(uses)
 }
 

@@ -6,6 +6,7 @@ ghost use Rattle.pd_laid.specs.Salvage.{is_damaged};
 ghost use Rattle.pd_salvage_shapes.specs.Visiting.{IsRaised};
 
 use crate::note::{Note, note_of};
+use crate::numbers::Numbers;
 use pd_image::Device;
 use pd_kinds::{Block, ThinSuper};
 use pd_node::is_inner;
@@ -37,7 +38,7 @@ pub(crate) struct Visiting {
 #[derive(Drop)]
 pub(crate) struct Seen {
     /// The numbers of the notes that were met.
-    pub(crate) met: Vec<u32>,
+    pub(crate) met: Numbers,
     /// How many mappings these have.
     pub(crate) mapped: u64,
 }
@@ -332,7 +333,7 @@ impl Visiting {
     {
         self.meet_tree(dev, root)?;
         let mapped = self.mapped_now();
-        match Vec::from_slice(self.alloc, self.met.as_slice()) {
+        match Numbers::of(self.alloc, self.met.as_slice()) {
             Ok(met) => Ok(Seen { met, mapped }),
             Err(_) => Err(SalvageFault::Memory),
         }
