@@ -106,6 +106,27 @@ const SEARCH_SHARED: &str =
 
 const REPAIR_SHARED: &str = "thin_repair --shared -i x -o y";
 
+/// What such a search would keep, and that of the pool without data blocks.
+const DRY_SEARCH: &str =
+    "thin_repair --dry-run -i x --transaction-id 7 --data-block-size 128 --nr-data-blocks 1";
+
+const DRY_SEARCH_NONE: &str =
+    "thin_repair --dry-run -i x --transaction-id 7 --data-block-size 128 --nr-data-blocks 0";
+
+/// What a repair from these roots would keep, and the same where the second one is no details tree.
+const DRY_NAMED: &str =
+    "thin_repair --dry-run -i x --mapping-root 2 --details-root 3 --transaction-id 7 --data-block-size 128 --nr-data-blocks 1";
+
+const DRY_NAMED_ALONE: &str =
+    "thin_repair --dry-run -i x --mapping-root 2 --details-root 2 --transaction-id 7 --data-block-size 128 --nr-data-blocks 1";
+
+/// A repair from these roots, and one that keeps what is shared.
+const NAMED: &str =
+    "thin_repair -i x -o y --mapping-root 2 --details-root 3 --transaction-id 7 --data-block-size 128 --nr-data-blocks 1";
+
+const NAMED_SHARED: &str =
+    "thin_repair --shared -i x -o y --mapping-root 2 --details-root 3 --transaction-id 7 --data-block-size 128 --nr-data-blocks 1";
+
 /// A repair of a cache, and one in the first version.
 const REPAIR_CACHE: &str = "cache_repair -i x -o y";
 
@@ -147,6 +168,10 @@ pub(crate) const READINGS: &[Asked] = &[
     ("thin_repair --dry-run --shared -i x", "", Twice, Nothing, 0),
     ("thin_repair --dry-run -i x", "", NoPool, Nothing, 1),
     ("thin_repair --dry-run -i x -o y", "", Pool, Target, 2),
+    (DRY_SEARCH, "", NoPool, Nothing, 0),
+    (DRY_SEARCH_NONE, "", NoPool, Nothing, 1),
+    (DRY_NAMED, "", NoPool, Nothing, 0),
+    (DRY_NAMED_ALONE, "", NoPool, Nothing, 0),
     ("era_invalidate --written-since 5 x", "", Target, Nothing, 0),
     ("thin_generate --number 1", "", Nothing, Nothing, 0),
     ("thin_check", "", Pool, Nothing, 2),
@@ -178,6 +203,9 @@ pub(crate) const WRITINGS: &[Asked] = &[
     (REPAIR_SHARED, "", NoPool, Target, 1),
     (REPAIR_SHARED, "", Pool, Nothing, 4),
     (SEARCH_SHARED, "", NoPool, Target, 0),
+    (NAMED, "", NoPool, Target, 0),
+    (NAMED_SHARED, "", DamagedPool, Pool, 0),
+    (NAMED, "", Pool, Nothing, 4),
     (REPAIR_CACHE, "", Cache, Target, 0),
     (REPAIR_CACHE_1, "", Cache, Ones, 0),
     (REPAIR_CACHE, "", Pool, Target, 1),

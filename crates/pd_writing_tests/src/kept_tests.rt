@@ -87,7 +87,7 @@ fn harmed(alloc: Global, text: &str, harm: Harm) -> Result<Vec<Block>, Fail> {
 }
 
 /// Asks about an image, beside other devices that hold blocks of ones.
-fn ask(
+pub(crate) fn ask(
     alloc: Global,
     words: &[&str],
     image: &[Block],
@@ -103,7 +103,7 @@ fn ask(
 }
 
 /// A run came to this. The input stays, and no other device was opened.
-fn expect_read(
+pub(crate) fn expect_read(
     alloc: Global,
     ran: &Ran,
     image: &[Block],

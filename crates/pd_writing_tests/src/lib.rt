@@ -1,5 +1,5 @@
 //! Tests of whole runs, over objects in memory, that write a pool: restores, repairs and what they would keep, searches for the
-//! roots of pools whose superblock is lost, shrinks, and checks that clear the flag "needs check".
+//! roots of pools whose superblock is lost and repairs from named ones, shrinks, and checks that clear the flag "needs check".
 #![tactic(auto)]
 
 #[cfg(test)]
@@ -8,6 +8,8 @@ mod flag_tests;
 mod kept_tests;
 #[cfg(test)]
 mod lost;
+#[cfg(test)]
+mod named_tests;
 #[cfg(test)]
 mod repair_tests;
 #[cfg(test)]
