@@ -764,11 +764,12 @@ mkdir states
 cat >states/program <<END
 #!/bin/sh
 case "\$*" in
+*--dry-run*--transaction-id*) [ -s '$tmp/listed.txt' ] && cat '$tmp/listed.txt' ;;
 *--dry-run*) cat '$tmp/told.txt' ;;
 *'--until whole'*) [ -e '$tmp/whole' ] || exit 1 ;;
-*--transaction-id*)
-    printf '%s\n' "\$*" >'$tmp/searched'
-    [ -s '$tmp/found.txt' ] && cat '$tmp/found.txt'
+*--mapping-root*)
+    printf '%s\n' "\$*" >'$tmp/repaired'
+    [ ! -e '$tmp/fails' ] || exit 4
     ;;
 *) exec $PROGRAM "\$@" ;;
 esac
@@ -777,37 +778,72 @@ chmod +x states/program
 sed "s|^program=.*|program=$tmp/states/program|" "$lvm/thin_repair" >states/thin_repair
 chmod +x states/thin_repair
 own=$(od -An -tu8 -j320 -N16 thin-pool.img | awk '{ print $1, $2 }')
+of_older='--transaction-id 5 --data-block-size 128 --nr-data-blocks 4000'
+taken='thin_repair: by its superblock 5 mappings of thin-pool.img are left, and 9 in an older state, which is taken: see thin_repair(8)'
 printf 'device 1 kept 5 of 5\ndevice 2 lost 9\nkeeps 1 5 need 9 shared 9\n' >told.txt
-echo 'roots 3 4 mappings 9 time 2' >found.txt
+# the first one with as many devices, or else the first
+cat >listed.txt <<END
+roots 7 8 devices 3 mappings 30 transaction 5 time 3
+roots 3 4 devices 2 mappings 9 transaction 5 time 2
+roots 5 6 devices 2 mappings 8 transaction 5 time 1
+keeps 3 30 need 12 shared 12
+END
 try 0 states/thin_repair -i thin-pool.img -o fresh.img
 out
-notes 'thin_repair: by its superblock 5 mappings of thin-pool.img are left, and 9 in an older state, which is taken: see thin_repair(8)'
-echo 'thin_repair --shared -i thin-pool.img -o fresh.img --transaction-id 5 --data-block-size 128 --nr-data-blocks 4000' >wanted
-same searched wanted
-# it has no more; or it is the superblock's own; or there is none
-for line in 'roots 3 4 mappings 5 time 2' "roots $own mappings 9 time 2" ''; do
-    printf '%s\n' "$line" | sed '/^$/d' >found.txt
+notes "$taken"
+echo "thin_repair --shared -i thin-pool.img -o fresh.img --mapping-root 3 --details-root 4 $of_older" >wanted
+same repaired wanted
+sed 's/devices 2/devices 1/; s/mappings 30/mappings 9/' listed.txt >others.txt
+mv others.txt listed.txt
+try 0 states/thin_repair -i thin-pool.img -o fresh.img
+notes "$taken"
+echo "thin_repair --shared -i thin-pool.img -o fresh.img --mapping-root 7 --details-root 8 $of_older" >wanted
+same repaired wanted
+# it has no more; or it is the superblock's own; or there is none: nothing else is written
+rm repaired
+for line in 'roots 3 4 devices 2 mappings 5 transaction 5 time 2' "roots $own devices 2 mappings 9 transaction 5 time 2" ''; do
+    printf '%s\n' "$line" | sed '/^$/d' >listed.txt
     try 0 states/thin_repair -i thin-pool.img -o fresh.img
     out
     notes 'thin_repair: what is kept of the devices that lost something:' 'device 2 lost 9'
+    [ ! -e repaired ] || bad 'a second repair'
     try 0 thin_dump fresh.img
     same out thin-pool.txt
 done
+# its repair fails: the first one is made again
+echo 'roots 3 4 devices 2 mappings 9 transaction 5 time 2' >listed.txt
+: >fails
+zeros fresh.img 1024
+try 0 states/thin_repair -i thin-pool.img -o fresh.img
+notes 'thin_repair: what is kept of the devices that lost something:' 'device 2 lost 9'
+try 0 thin_dump fresh.img
+same out thin-pool.txt
+rm fails repaired
+: >listed.txt
 printf 'device 2 lost 9\nkeeps 0 0 need 8 shared 8\n' >told.txt
 try 1 states/thin_repair -i thin-pool.img -o fresh.img
 notes 'thin_repair: by its superblock nothing of thin-pool.img is left, and no older state was found: nothing is repaired; see pdata_tools-lvm(8)'
-# a pool without devices
+# the details are lost, too: the first state is taken, and no empty one
 echo 'keeps 0 0 need 8 shared 8' >told.txt
-echo "roots $own mappings 0 time 2" >found.txt
+cat >listed.txt <<END
+roots 3 4 devices 2 mappings 9 transaction 5 time 2
+roots 9 8 devices 0 mappings 0 transaction 0 time 0
+END
+try 0 states/thin_repair -i thin-pool.img -o fresh.img
+notes 'thin_repair: by its superblock 0 mappings of thin-pool.img are left, and 9 in an older state, which is taken: see thin_repair(8)'
+echo "thin_repair --shared -i thin-pool.img -o fresh.img --mapping-root 3 --details-root 4 $of_older" >wanted
+same repaired wanted
+rm repaired
+# a pool without devices
+echo "roots $own devices 0 mappings 0 transaction 5 time 2" >listed.txt
 try 0 states/thin_repair -i thin-pool.img -o fresh.img
 notes
 # nothing is damaged: an older state, with volumes that were removed, isn't looked for
 : >whole
-echo 'roots 3 4 mappings 9 time 2' >found.txt
-rm searched
+echo 'roots 3 4 devices 2 mappings 9 transaction 5 time 2' >listed.txt
 try 0 states/thin_repair -i thin-pool.img -o fresh.img
 notes
-[ ! -e searched ] || bad 'a search of a sound pool'
+[ ! -e repaired ] || bad 'a search of a sound pool'
 
 # Progress, on a terminal: of a program that takes three seconds after a megabyte
 
@@ -1653,9 +1689,9 @@ zeros fresh.img 1024
 try 0 "$lvm/thin_repair" '' -i leak.img -o fresh.img
 notes
 try 0 thin_check fresh.img
-# the kernel left an older state behind
+# the kernel left older states behind: the first has a device more, which was removed since
 try 0 "$lvm/thin_repair" -i damaged.img -o fresh.img
-notes 'thin_repair: by its superblock 0 mappings of damaged.img are left, and 1818 in an older state, which is taken: see thin_repair(8)'
+notes 'thin_repair: by its superblock 0 mappings of damaged.img are left, and 1463 in an older state, which is taken: see thin_repair(8)'
 try 0 thin_check fresh.img
 try 1 "$lvm/thin_repair" -i lost.img -o fresh.img
 notes 'fault meta 0 checksum' 'faults 1' \
