@@ -764,7 +764,11 @@ mkdir states
 cat >states/program <<END
 #!/bin/sh
 case "\$*" in
-*--dry-run*--transaction-id*) [ -s '$tmp/listed.txt' ] && cat '$tmp/listed.txt' ;;
+*--dry-run*--transaction-id*)
+    [ -s '$tmp/listed.txt' ] || exit 1
+    cat '$tmp/listed.txt'
+    [ ! -e '$tmp/breaks' ] || exit 6
+    ;;
 *--dry-run*) cat '$tmp/told.txt' ;;
 *'--until whole'*) [ -e '$tmp/whole' ] || exit 1 ;;
 *--mapping-root*)
@@ -810,8 +814,14 @@ for line in 'roots 3 4 devices 2 mappings 5 transaction 5 time 2' "roots $own de
     try 0 thin_dump fresh.img
     same out thin-pool.txt
 done
-# its repair fails: the first one is made again
+# the list breaks off: none of it is taken
 echo 'roots 3 4 devices 2 mappings 9 transaction 5 time 2' >listed.txt
+: >breaks
+try 0 states/thin_repair -i thin-pool.img -o fresh.img
+notes 'thin_repair: what is kept of the devices that lost something:' 'device 2 lost 9'
+[ ! -e repaired ] || bad 'a repair by a list that broke off'
+rm breaks
+# its repair fails: the first one is made again
 : >fails
 zeros fresh.img 1024
 try 0 states/thin_repair -i thin-pool.img -o fresh.img
