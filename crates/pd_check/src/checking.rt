@@ -23,7 +23,7 @@ use std::alloc::Global;
 ///
 /// A check up to `Super` takes no memory, and one past it takes none before block 0 was found sound, and
 /// all of it before it reads another block: about 50 bytes a metadata block, and up to `Whole` what the kind
-/// needs besides. Up to `Counts` it takes at most 32 bytes more a metadata block, however many data blocks the
+/// needs besides. Up to `Counts` it takes at most 33 bytes more a metadata block, however many data blocks the
 /// superblock claims. Memory for the counts of data blocks that are referred to, and for the cursors, comes later.
 ///
 /// It reads block 0, and where that breaks no rule at most once for each role in which a block is reached, whatever is

@@ -27,7 +27,7 @@ use pd_whole::RefCounter;
 use std::alloc::{AllocError, Global};
 
 /// A counter of the references to data blocks, where this is block 0; it counts none where this kind has none. It takes
-/// 32 bytes for each metadata block at the most, whatever block 0 claims, and more as counts come. Want of memory is the
+/// 33 bytes for each metadata block at the most, whatever block 0 claims, and more as counts come. Want of memory is the
 /// only error.
 pub(crate) fn ref_counter<M: Metadata>(
     alloc: Global,

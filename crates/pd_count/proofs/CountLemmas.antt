@@ -1,5 +1,5 @@
 -- What one number that is put in one chunk comes to for all blocks, and one count more.
-use Rattle.std.proofs.Common.{◌≡◌, ℕ, ◌+◌, ◌*◌, ◌/◌, ◌%◌, ◌<◌, ◌≤◌, List, [], ◌∷◌, ◌++◌, length, get_or, set, sym, ◌∙◌, ap, refl, arith, inl, inr, eqb, cond, get_or-set_same, get_or-set_other}
+use Rattle.std.proofs.Common.{◌≡◌, ◌≢◌, ℕ, ◌+◌, ◌*◌, ◌/◌, ◌%◌, ◌<◌, ◌≤◌, List, [], ◌∷◌, ◌++◌, length, get_or, set, sym, ◌∙◌, ap, refl, arith, inl, inr, eqb, cond, get_or-set_same, get_or-set_other}
 use Rattle.std.specs.Prelude.{count_by}
 use Rattle.std.proofs.lemmas.List.{get_or_default}
 use Rattle.std.proofs.lemmas.List.Sums.{sum_by_push}
@@ -22,32 +22,37 @@ count_in_chunk size chunks b numbers within read =
 same_block : (b c : ℕ) → c / 16320 ≡ b / 16320 → c % 16320 ≡ b % 16320 → c ≡ b
 same_block b c chunk at = omega (arith, div-add-mod b 16320, div-add-mod c 16320)
 
--- a number was put at a block
-pub puts_number : (size : ℕ) (chunks : List (List ℕ)) (b number : ℕ) (old new : List ℕ) → b / 16320 < length chunks
-    → old ≡ get_or chunks (b / 16320) old → PutsAt (b % 16320) number old new
-    → PutsNumber b number (table size chunks) (table size (set chunks (b / 16320) new))
+-- chunk i had these numbers and has those, and every other chunk is as it was
+pub record PutsChunk (i : ℕ) (was is : List ℕ) (old new : List (List ℕ)) : Type 0 where
+  pub had : get_or old i [] ≡ was
+  pub has : get_or new i [] ≡ is
+  pub others : (j : ℕ) → j ≢ i → get_or new j [] ≡ get_or old j []
+
+-- a number was put at a block, where it was put in the chunk of the block
+pub puts_by_chunk : (size b number : ℕ) (was is : List ℕ) (old new : List (List ℕ)) → PutsChunk (b / 16320) was is old new
+    → PutsAt (b % 16320) number was is → PutsNumber b number (table size old) (table size new)
 unfolding count_of
-puts_number size chunks b number old new within read puts = record {
+puts_by_chunk size b number was is old new chunk puts = record {
   size = refl;
-  put = ap (λ (c : List ℕ). get_or c (b % 16320) 0) (get_or-set_same chunks (b / 16320) new [] within) ∙ puts.put;
+  put = ap (λ (numbers : List ℕ). get_or numbers (b % 16320) 0) chunk.has ∙ puts.put;
   others = λ c other. elim (cases_eq (c / 16320) (b / 16320)) [
     | inl same ↦
-        let put : get_or (set chunks (b / 16320) new) (c / 16320) [] ≡ new = rw same (get_or-set_same chunks (b / 16320) new [] within) in
-        let had : old ≡ get_or chunks (c / 16320) [] = rw same (read ∙ get_or_default chunks (b / 16320) old [] within) in
-        ap (λ (numbers : List ℕ). get_or numbers (c % 16320) 0) put
+        let has : get_or new (c / 16320) [] ≡ is = rw same chunk.has in
+        let had : get_or old (c / 16320) [] ≡ was = rw same chunk.had in
+        ap (λ (numbers : List ℕ). get_or numbers (c % 16320) 0) has
         ∙ (puts.others (c % 16320) (λ at. other (same_block b c same at))
-        ∙ ap (λ (numbers : List ℕ). get_or numbers (c % 16320) 0) had)
-    | inr apart ↦ ap (λ (numbers : List ℕ). get_or numbers (c % 16320) 0) (get_or-set_other chunks (b / 16320) (c / 16320) new [] apart)
+        ∙ ap (λ (numbers : List ℕ). get_or numbers (c % 16320) 0) (sym had))
+    | inr apart ↦ ap (λ (numbers : List ℕ). get_or numbers (c % 16320) 0) (chunk.others (c / 16320) apart)
   ];
 }
 
 -- one more at a block
-pub counts_one_more : (size : ℕ) (chunks : List (List ℕ)) (b : ℕ) (old new : List ℕ) → b / 16320 < length chunks
-    → old ≡ get_or chunks (b / 16320) old → PutsAt (b % 16320) (get_or old (b % 16320) 0 + 1) old new
-    → CountsOneMore b (table size chunks) (table size (set chunks (b / 16320) new))
-counts_one_more size chunks b old new within read puts =
-    let all = puts_number size chunks b (get_or old (b % 16320) 0 + 1) old new within read puts in
-    record { size = refl; counted = all.put ∙ ap (λ n. n + 1) (sym (count_in_chunk size chunks b old within read)); others = all.others }
+pub counts_one_more : (size b : ℕ) (was is : List ℕ) (old new : List (List ℕ)) → PutsChunk (b / 16320) was is old new
+    → PutsAt (b % 16320) (get_or was (b % 16320) 0 + 1) was is → CountsOneMore b (table size old) (table size new)
+unfolding count_of
+counts_one_more size b was is old new chunk puts =
+    let all = puts_by_chunk size b (get_or was (b % 16320) 0 + 1) was is old new chunk puts in
+    record { size = refl; counted = all.put ∙ ap (λ (numbers : List ℕ). get_or numbers (b % 16320) 0 + 1) (sym chunk.had); others = all.others }
 
 -- and the counts are those of a list with one more block
 pub counts_listed : (b : ℕ) (old new : Counted) → CountsOneMore b old new → (before : List ℕ) → HasCounted old before
@@ -79,10 +84,10 @@ module _ (counts : Counted) (i : ℕ) (chunk : List ℕ) (counted : (k : ℕ) �
   pub chunk_absent : chunk ≡ [] → IsUncounted counts i
   chunk_absent none = λ k within. counted k within ∙ ap (λ (xs : List ℕ). get_or xs k 0) none
 
--- no block past the last one was counted, also after one more count
-pub none_past : (b size : ℕ) (old new : Counted) → b < size → CountsOneMore b old new
+-- no block past the last one has a number, also where that of a block was changed
+pub none_past : (b size : ℕ) (old new : Counted) → b < size → ((c : ℕ) → c ≢ b → count_of new c ≡ count_of old c)
     → ((c : ℕ) → size ≤ c → count_of old c ≡ 0) → (c : ℕ) → size ≤ c → count_of new c ≡ 0
-none_past b size old new within adds none c past = adds.others c (λ same. omega (arith, same)) ∙ none c past
+none_past b size old new within others none c past = others c (λ same. omega (arith, same)) ∙ none c past
 
 -- where no chunk is made, nothing was counted
 pub none_counted : (size : ℕ) (chunks : List (List ℕ)) → ((i : ℕ) → get_or chunks i [] ≡ []) → (b : ℕ) → count_of (table size chunks) b ≡ 0

@@ -2,3 +2,4 @@ pub mod CountLemmas
 pub mod DigitLemmas
 pub mod EntryLemmas
 pub mod FormLemmas
+pub mod GroupLemmas

@@ -1,2 +1,3 @@
 pub mod Counted
 pub mod Forms
+pub mod Groups

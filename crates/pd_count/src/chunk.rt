@@ -82,7 +82,7 @@ impl Chunk {
     /// Puts a number at a place, and makes the chunk where it isn't there.
     ///
     /// Fails with `AllocError` where memory for that wasn't found; then all is as before.
-    pub fn set(&mut self, at: usize, number: u32) -> Result<(), AllocError>
+    pub(crate) fn set(&mut self, at: usize, number: u32) -> Result<(), AllocError>
         requires { at < 16320 }
         ensures put { OnOk result (PutsAt at number self.old self.new) }
         ensures err { OnErr result (self.new ≡ self.old) }
@@ -210,7 +210,7 @@ impl Chunk {
 /// So many chunks that aren't made. It takes the memory of their list.
 ///
 /// Fails with `AllocError` where that memory wasn't found.
-pub fn absent_chunks(alloc: Global, places: usize) -> Result<Vec<Chunk>, AllocError>
+pub(crate) fn absent_chunks(alloc: Global, places: usize) -> Result<Vec<Chunk>, AllocError>
     ensures len { IfOk result (λ chunks. length chunks.items ≡ places) }
     ensures absent { IfOk result (λ chunks. (i : ℕ) → slice_index_or chunks.items i [] ≡ []) }
 {

@@ -3,51 +3,56 @@
 ghost use Rattle.std.specs.Prelude.{◌≡◌, ℕ, ◌+◌, ◌-◌, ◌^◌, ◌<◌, ◌≤◌, List, [], ◌∷◌, ◌++◌, IfOk, OnOk, OnErr, MatchOption};
 
 use crate::CHUNK_COUNTS;
-use crate::chunk::{Chunk, absent_chunks};
+use crate::chunk::Chunk;
+use crate::group::{GROUP_CHUNKS, Group, absent_groups};
 use std::alloc::{AllocError, Global};
 use std::marker::Model;
 
 /// How often each of so many blocks was counted.
 ///
-/// The counts stand in chunks of 16320, and a chunk is made when a block in it is first counted: 32 bytes a chunk, and
-/// more where it is made, as `Chunk` tells. That is at most 64 bytes for each time that a block was counted, and a byte
-/// for each block where blocks lie close and none was counted more than 255 times.
+/// The counts stand in chunks of 16320, and the chunks in groups of 64. Each group takes 24 bytes: that is 25 MB for 2^40
+/// blocks, before any is counted. A group is made when a block in it is first counted. From then on it takes 2048 bytes
+/// more, which are 32 for each of its chunks. A chunk takes more where a block in it was counted, as `Chunk` tells: at
+/// most 64 bytes for each time that a block was counted, and a byte for each block where blocks lie close and none was
+/// counted more than 255 times.
 #[derive(Drop)]
 pub struct Counts {
     size: u64,
-    chunks: Vec<Chunk>,
+    groups: Vec<Group>,
 }
 
 impl Model for Counts {
     ghost use Rattle.std.specs.Prelude.{◌≡◌, ℕ, ◌+◌, ◌/◌, ◌≤◌, length};
     ghost use Rattle.pd_count.specs.Counted.{Counted, count_of};
+    ghost use Rattle.pd_count.specs.Groups.{chunks_in};
 
     ghost Value = { Counted };
 
-    ghost view = { λ c. record { size = c.size; chunks = c.chunks.items } };
+    ghost view = { λ c. record { size = c.size; chunks = chunks_in c.groups.items } };
 
-    ghost invariant = { λ c. (length c.chunks.items ≡ (c.size + 16319) / 16320)
-        × ((b : ℕ) → c.size ≤ b → count_of (record { size = c.size; chunks = c.chunks.items }) b ≡ 0) };
+    ghost invariant = { λ c. (length c.groups.items ≡ (c.size + 1044479) / 1044480)
+        × ((b : ℕ) → c.size ≤ b → count_of (record { size = c.size; chunks = chunks_in c.groups.items }) b ≡ 0) };
 }
 
 impl Counts {
-    ghost use Rattle.pd_count.specs.Counted.{count_of, CountsOneMore, HasCounted, IsChunk, IsUncounted};
+    ghost use Rattle.pd_count.specs.Counted.{count_of, CountsOneMore, HasCounted, IsChunk, IsUncounted, PutsNumber};
 
-    /// A table of so many blocks, none of which was counted. It takes the memory of the list of chunks.
+    /// A table of so many blocks, none of which was counted. It takes the memory of the list of groups.
     ///
     /// Fails with `AllocError` where that memory wasn't found.
     pub fn new(alloc: Global, size: u64) -> Result<Counts, AllocError>
         ensures size { IfOk result (λ counts. counts.size ≡ size) }
         ensures none { IfOk result (λ counts. HasCounted counts []) }
     {
-        let places = size.div_ceil(CHUNK_COUNTS as u64) as usize;
+        let places = size.div_ceil((GROUP_CHUNKS * CHUNK_COUNTS) as u64) as usize;
         Ok(Counts {
             size,
-            chunks: absent_chunks(alloc, places)?,
+            groups: absent_groups(alloc, places)?,
         })
     }
 
-    /// Counts the block once more. It takes memory only where the chunk of the block has no room for its count.
+    /// Counts the block once more. It takes memory only where the group of the block isn't made, or where its chunk has no
+    /// room for its count.
     ///
     /// Fails with `AllocError` where that memory wasn't found; then all is as before.
     pub fn add(&mut self, b: u64) -> Result<(), AllocError>
@@ -60,7 +65,21 @@ impl Counts {
     {
         let i = (b / CHUNK_COUNTS as u64) as usize;
         let at = (b % CHUNK_COUNTS as u64) as usize;
-        self.chunks[i].add(at)?;
+        self.groups[i / GROUP_CHUNKS].add(i % GROUP_CHUNKS, at)?;
+        Ok(())
+    }
+
+    /// Puts the number of the block, in a table of other numbers than counts. It takes memory as `add` does.
+    ///
+    /// Fails with `AllocError` where that memory wasn't found; then all is as before.
+    pub fn set(&mut self, b: u64, number: u32) -> Result<(), AllocError>
+        requires within { b < self.old.size }
+        ensures put { OnOk result (PutsNumber b number self.old self.new) }
+        ensures err { OnErr result (self.new ≡ self.old) }
+    {
+        let i = (b / CHUNK_COUNTS as u64) as usize;
+        let at = (b % CHUNK_COUNTS as u64) as usize;
+        self.groups[i / GROUP_CHUNKS].set(i % GROUP_CHUNKS, at, number)?;
         Ok(())
     }
 
@@ -71,7 +90,7 @@ impl Counts {
     {
         let i = (b / CHUNK_COUNTS as u64) as usize;
         let at = (b % CHUNK_COUNTS as u64) as usize;
-        self.chunks[i].get(at)
+        self.groups[i / GROUP_CHUNKS].get(i % GROUP_CHUNKS, at)
     }
 
     /// The number of blocks. It takes no memory.
@@ -88,7 +107,9 @@ impl Counts {
     pub fn chunk(&self, i: u64) -> Option<&Chunk>
         ensures { MatchOption result (IsUncounted self.now i) (λ chunk. IsChunk self.now i chunk.now) }
     {
-        let chunk = self.chunks.get(i as usize)?;
+        let i = i as usize;
+        let group = self.groups.get(i / GROUP_CHUNKS)?;
+        let chunk = group.chunk(i % GROUP_CHUNKS)?;
         if chunk.is_made() { Some(chunk) } else { None }
     }
 }

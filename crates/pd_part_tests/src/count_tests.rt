@@ -58,10 +58,10 @@ impl Counting {
 /// whether the last one comes first.
 type CountRow = (u64, u64, u64, u32, bool);
 
-/// So many blocks the tables of these rows have.
-const BLOCKS: u64 = 1000000;
+/// So many blocks the tables of these rows have: two groups of chunks, and most of a third one.
+const BLOCKS: u64 = 3000000;
 
-/// The forms of a chunk, and its first changes.
+/// The forms of a chunk, its first changes, and blocks on both sides of a chunk's and a group's end.
 const COUNTINGS: &[CountRow] = &[
     (3, 1, 1, 255, false),
     (3, 1, 1, 256, false),
@@ -73,8 +73,10 @@ const COUNTINGS: &[CountRow] = &[
     (16319, 1, 2, 3, false),
     (16200, 1, 600, 1, true),
     (7, 16320, 5, 4, false),
-    (999999, 1, 1, 2, false),
-    (999700, 1, 300, 1, true),
+    (1044479, 1, 2, 3, false),
+    (7, 1044480, 3, 4, true),
+    (2999999, 1, 1, 2, false),
+    (2999700, 1, 300, 1, true),
 ];
 
 /// The blocks of a row.
@@ -164,10 +166,10 @@ fn one_block_of_many_has_a_great_count(rt: HostRuntime) -> Result<(), Fail> {
 
 #[test]
 fn a_huge_table_takes_memory_where_a_block_is_counted(rt: HostRuntime) -> Result<(), Fail> {
-    let mut counts = Counts::new(rt.alloc(), 68719476736)?;
+    let mut counts = Counts::new(rt.alloc(), 1099511627776)?;
     count(&rt, &mut counts, 0)?;
-    count(&rt, &mut counts, 68719476735)?;
-    let found = [counts.get(0), counts.get(68719476735), counts.get(1)];
+    count(&rt, &mut counts, 1099511627775)?;
+    let found = [counts.get(0), counts.get(1099511627775), counts.get(1)];
     assert!(rt; found == [1, 1, 0]);
     Ok(())
 }
