@@ -25,8 +25,8 @@ use std::alloc::Global;
 /// Puts a line for each thin device of the pool with this superblock, by ascending number: how many blocks it maps, how
 /// many of them are exclusive, since no other mapping of any device has their data block, and how many are shared.
 /// It reads each node of the devices' trees twice at the most, however many devices share it, and holds no mappings: who
-/// uses each data block stands in 4 bytes, in chunks of 16320 blocks that are made where one of them is used, how often
-/// each metadata block was met in a byte, and of each device 8 bytes, or up to 16 as their list grows.
+/// uses each data block stands in a table of `Counts`, how often each metadata block was met in a byte, and of each
+/// device 8 bytes, or up to 16 as their list grows.
 ///
 /// Fails with `Device` where a read failed, with `Memory` where memory wasn't found, and with `Sink` where `out` failed;
 /// then a front of the lines was put.

@@ -18,7 +18,6 @@ mod parts;
 mod region;
 mod reverse_map;
 mod tallies;
-mod users;
 mod walk;
 
 pub use data_use::DataUse;

@@ -6,7 +6,7 @@ ghost use Rattle.pd_uses.specs.declared.data_use.DataUse.{DataUse as OneUse};
 ghost use Rattle.pd_uses.specs.Tallied.{IsTallied, lowered_at, raised_at};
 
 use crate::data_use::DataUse;
-use crate::users::Users;
+use pd_count::Counts;
 use std::alloc::{AllocError, Global};
 
 /// What is noted of a data block that nobody uses.
@@ -16,11 +16,11 @@ const NOBODY: u32 = 0;
 /// devices is noted, and 1 more.
 const SEVERAL: u32 = u32::MAX;
 
-/// The users of the data blocks, and of each device that was begun how many of them it alone uses, and once: 8 bytes a
-/// device beside the table of users.
+/// A number for each data block, which tells who uses it, and for each device that was begun how many blocks it alone
+/// uses, and once: 8 bytes a device beside the table of users.
 #[derive(Drop)]
 pub(crate) struct Tallies {
-    users: Users,
+    users: Counts,
     exclusive: Vec<u64>,
 }
 
@@ -35,7 +35,7 @@ impl Tallies {
         ensures tallied { IfOk result (λ tallies. IsTallied [] tallies.users tallies.exclusive.items) }
     {
         Ok(Tallies {
-            users: Users::new(alloc, blocks)?,
+            users: Counts::new(alloc, blocks)?,
             exclusive: Vec::new(alloc),
         })
     }
