@@ -24,6 +24,10 @@ place_left size place = entry_count size place.block.0 - place.next
 abbrev pub after : NodePlace → NodePlace
 after place = record place { next = place.next + 1 }
 
+-- the place before its first entry
+abbrev pub whole_place : NodePlace → NodePlace
+whole_place place = record place { next = 0 }
+
 -- what one step at a place took: nothing where nothing is left
 pub record TakesNothing (size : ℕ) (old new : NodePlace) : Type 0 where
   pub same : new ≡ old
