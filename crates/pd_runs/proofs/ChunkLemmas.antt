@@ -1,13 +1,14 @@
 -- Runs in chunks come back, and a run that is put behind them.
 use Rattle.std.proofs.Common.{◌≡◌, ℕ, ◌+◌, ◌^◌, ◌<◌, ◌≤◌, Bool, true, false, if◌then◌else◌, List, [], ◌∷◌, ◌++◌, length, refl, sym, ap, ◌∙◌, append_assoc, arith}
+use Rattle.std.specs.List.{AllByRecursion}
 use Rattle.std.proofs.lemmas.Bool.Decides.{nat_tests}
 use Rattle.std.proofs.lemmas.List.{append-nil, length-append}
 use Rattle.pd_thin_meaning.specs.declared.joined.Run.{Run}
 use Rattle.pd_runs.specs.Chunks.{ArePacked, ByteChunks, added, begun, chunks_of, in_order, is_full, no_chunks, runs_in, unchunked, with_run, with_runs}
 use Rattle.pd_runs.specs.Packed.{last_run, no_run, packed, unpacked}
-use Rattle.pd_runs.specs.Runs.{packed_run}
-use Rattle.pd_runs.proofs.RunLemmas.{Fits, length-packed_run}
-use Rattle.pd_runs.proofs.PackedLemmas.{AllFit, AllFit-append, AllFit-unpacked, Fits-last, last_run-append, last_run-push, no_run-fits, packed-push, unpacked-empty, unpacked-packed}
+use Rattle.pd_runs.specs.Runs.{FitsRun, packed_run}
+use Rattle.pd_runs.proofs.RunLemmas.{length-packed_run}
+use Rattle.pd_runs.proofs.PackedLemmas.{AllFit-append, AllFit-unpacked, Fits-last, last_run-append, last_run-push, no_run-fits, packed-push, unpacked-empty, unpacked-packed}
 
 -- ---- chunk by chunk
 
@@ -31,7 +32,7 @@ pub unchunked-one : (before : Run) (chunk : List ℕ) → unchunked before (chun
 unfolding unchunked
 unchunked-one before chunk = append-nil (unpacked before chunk)
 
-AllFit-unchunked : (before : Run) (chunks : List (List ℕ)) → AllFit (unchunked before chunks)
+AllFit-unchunked : (before : Run) (chunks : List (List ℕ)) → AllByRecursion FitsRun (unchunked before chunks)
 unfolding unchunked
 AllFit-unchunked before [] = tt
 AllFit-unchunked before (chunk ∷ chunks) =
@@ -41,92 +42,88 @@ AllFit-unchunked before (chunk ∷ chunks) =
 
 -- ---- the way back
 
--- the last of the runs in the chunks that are done
-abbrev last_full : ByteChunks → Run
-last_full chunks = last_run no_run (unchunked no_run chunks.full)
+-- the last of the runs in the chunks that are done, behind that one
+abbrev last_full : Run → ByteChunks → Run
+last_full start chunks = last_run start (unchunked start chunks.full)
 
--- the chunks hold these runs, of which the last chunk has those, each of them whole
-record Hold (chunks : ByteChunks) (runs : List Run) (rest : List Run) : Type 0 where
-  tail_is : chunks.tail ≡ packed (last_full chunks) rest
-  runs_are : runs ≡ unchunked no_run chunks.full ++ rest
-  fit : AllFit runs
-  rest_fit : AllFit rest
-
-Hold-runs : (chunks : ByteChunks) (runs rest : List Run) → Hold chunks runs rest → unchunked no_run (chunks.full ++ chunks.tail ∷ []) ≡ runs
-Hold-runs chunks runs rest hold =
-    let front = unchunked no_run chunks.full in
-    unchunked-append no_run chunks.full (chunks.tail ∷ [])
-    ∙ ap (λ (more : List Run). front ++ more)
-    (unchunked-one (last_full chunks) chunks.tail
-    ∙ ap (unpacked (last_full chunks)) hold.tail_is
-    ∙ unpacked-packed (last_full chunks) rest (Fits-last no_run front no_run-fits (AllFit-unchunked no_run chunks.full)) hold.rest_fit)
-    ∙ sym hold.runs_are
-
-Hold-begun : (chunks : ByteChunks) (runs rest : List Run) (run : Run) → Hold chunks runs rest → Fits run
-    → Hold (begun chunks (last_run no_run runs) run) (runs ++ run ∷ []) (run ∷ [])
-unfolding packed
-Hold-begun chunks runs rest run hold fits =
-    let whole = Hold-runs chunks runs rest hold in
-    record {
-      tail_is =
-          sym (append-nil (packed_run (last_run no_run runs) run))
-          ∙ ap (λ (front : List Run). packed (last_run no_run front) (run ∷ [])) (sym whole);
-      runs_are = ap (λ (front : List Run). front ++ run ∷ []) (sym whole);
-      fit = AllFit-append runs (run ∷ []) hold.fit (fits, tt);
-      rest_fit = (fits, tt);
-    }
-
-Hold-added : (chunks : ByteChunks) (runs rest : List Run) (run : Run) → Hold chunks runs rest → Fits run
-    → Hold (added chunks (last_run no_run runs) run) (runs ++ run ∷ []) (rest ++ run ∷ [])
-Hold-added chunks runs rest run hold fits =
-    let front = unchunked no_run chunks.full in
-    let last : last_run no_run runs ≡ last_run (last_full chunks) rest =
-    ap (last_run no_run) hold.runs_are ∙ last_run-append no_run front rest in
-    record {
-      tail_is =
-          ap (λ (before : Run). chunks.tail ++ packed_run before run) last
-          ∙ ap (λ (bytes : List ℕ). bytes ++ packed_run (last_run (last_full chunks) rest) run) hold.tail_is
-          ∙ sym (packed-push (last_full chunks) rest run);
-      runs_are = ap (λ (all : List Run). all ++ run ∷ []) hold.runs_are ∙ append_assoc front rest (run ∷ []);
-      fit = AllFit-append runs (run ∷ []) hold.fit (fits, tt);
-      rest_fit = AllFit-append rest (run ∷ []) hold.rest_fit (fits, tt);
-    }
+-- the chunks hold these runs, behind that one, of which the last chunk has those, each of them whole
+pub record Hold (start : Run) (chunks : ByteChunks) (runs : List Run) (rest : List Run) : Type 0 where
+  tail_is : chunks.tail ≡ packed (last_full start chunks) rest
+  runs_are : runs ≡ unchunked start chunks.full ++ rest
+  fit : AllByRecursion FitsRun runs
+  rest_fit : AllByRecursion FitsRun rest
 
 -- the runs of the last chunk, with one more
-abbrev rest_with : Bool → List Run → Run → List Run
+abbrev pub rest_with : Bool → List Run → Run → List Run
 rest_with true rest run = run ∷ []
 rest_with false rest run = rest ++ run ∷ []
 
-Hold-either : (full : Bool) (chunks : ByteChunks) (runs rest : List Run) (run : Run) → Hold chunks runs rest → Fits run
-    → Hold (if full then begun chunks (last_run no_run runs) run else added chunks (last_run no_run runs) run)
-    (runs ++ run ∷ []) (rest_with full rest run)
-Hold-either true chunks runs rest run hold fits = Hold-begun chunks runs rest run hold fits
-Hold-either false chunks runs rest run hold fits = Hold-added chunks runs rest run hold fits
+module _ (start : Run) (start_fits : FitsRun start) where
+  pub Hold-runs : (chunks : ByteChunks) (runs rest : List Run) → Hold start chunks runs rest → unchunked start (in_order chunks) ≡ runs
+  Hold-runs chunks runs rest hold =
+      let front = unchunked start chunks.full in
+      unchunked-append start chunks.full (chunks.tail ∷ [])
+      ∙ ap (λ (more : List Run). front ++ more)
+      (unchunked-one (last_full start chunks) chunks.tail
+      ∙ ap (unpacked (last_full start chunks)) hold.tail_is
+      ∙ unpacked-packed (last_full start chunks) rest (Fits-last start front start_fits (AllFit-unchunked start chunks.full)) hold.rest_fit)
+      ∙ sym hold.runs_are
 
-Hold-put : (chunks : ByteChunks) (runs rest : List Run) (run : Run) → Hold chunks runs rest → Fits run
-    → Hold (with_run chunks (last_run no_run runs) run) (runs ++ run ∷ []) (rest_with (is_full chunks.tail) rest run)
-unfolding with_run
-Hold-put chunks runs rest run hold fits = Hold-either (is_full chunks.tail) chunks runs rest run hold fits
+  Hold-begun : (chunks : ByteChunks) (runs rest : List Run) (run : Run) → Hold start chunks runs rest → FitsRun run
+      → Hold start (begun chunks (last_run start runs) run) (runs ++ run ∷ []) (run ∷ [])
+  unfolding packed
+  Hold-begun chunks runs rest run hold fits =
+      let whole = Hold-runs chunks runs rest hold in
+      record {
+        tail_is =
+            sym (append-nil (packed_run (last_run start runs) run))
+            ∙ ap (λ (front : List Run). packed (last_run start front) (run ∷ [])) (sym whole);
+        runs_are = ap (λ (front : List Run). front ++ run ∷ []) (sym whole);
+        fit = AllFit-append runs (run ∷ []) hold.fit (fits, tt);
+        rest_fit = (fits, tt);
+      }
+
+  Hold-added : (chunks : ByteChunks) (runs rest : List Run) (run : Run) → Hold start chunks runs rest → FitsRun run
+      → Hold start (added chunks (last_run start runs) run) (runs ++ run ∷ []) (rest ++ run ∷ [])
+  Hold-added chunks runs rest run hold fits =
+      let front = unchunked start chunks.full in
+      let last : last_run start runs ≡ last_run (last_full start chunks) rest =
+      ap (last_run start) hold.runs_are ∙ last_run-append start front rest in
+      record {
+        tail_is =
+            ap (λ (before : Run). chunks.tail ++ packed_run before run) last
+            ∙ ap (λ (bytes : List ℕ). bytes ++ packed_run (last_run (last_full start chunks) rest) run) hold.tail_is
+            ∙ sym (packed-push (last_full start chunks) rest run);
+        runs_are = ap (λ (all : List Run). all ++ run ∷ []) hold.runs_are ∙ append_assoc front rest (run ∷ []);
+        fit = AllFit-append runs (run ∷ []) hold.fit (fits, tt);
+        rest_fit = AllFit-append rest (run ∷ []) hold.rest_fit (fits, tt);
+      }
+
+  pub Hold-either : (full : Bool) (chunks : ByteChunks) (runs rest : List Run) (run : Run) → Hold start chunks runs rest → FitsRun run
+      → Hold start (if full then begun chunks (last_run start runs) run else added chunks (last_run start runs) run)
+      (runs ++ run ∷ []) (rest_with full rest run)
+  Hold-either true chunks runs rest run hold fits = Hold-begun chunks runs rest run hold fits
+  Hold-either false chunks runs rest run hold fits = Hold-added chunks runs rest run hold fits
+
+pub Hold-none : (start : Run) → Hold start no_chunks [] []
+unfolding packed unchunked
+Hold-none start = record { tail_is = refl; runs_are = refl; fit = tt; rest_fit = tt }
 
 unchunked-with_runs : (chunks : ByteChunks) (before : Run) (runs rest more : List Run) → last_run no_run runs ≡ before
-    → Hold chunks runs rest → AllFit more → runs_in (with_runs chunks before more) ≡ runs ++ more
-unfolding runs_in with_runs
-unchunked-with_runs chunks before runs rest [] last hold fit = Hold-runs chunks runs rest hold ∙ sym (append-nil runs)
+    → Hold no_run chunks runs rest → AllByRecursion FitsRun more → runs_in (with_runs chunks before more) ≡ runs ++ more
+unfolding runs_in with_runs with_run
+unchunked-with_runs chunks before runs rest [] last hold fit = Hold-runs no_run no_run-fits chunks runs rest hold ∙ sym (append-nil runs)
 unchunked-with_runs chunks before runs rest (run ∷ more) last hold fit =
-    let next : Hold (with_run chunks before run) (runs ++ run ∷ []) (rest_with (is_full chunks.tail) rest run) =
-    rw (← last) (Hold-put chunks runs rest run hold fit.0) in
+    let next : Hold no_run (with_run chunks before run) (runs ++ run ∷ []) (rest_with (is_full chunks.tail) rest run) =
+    rw (← last) (Hold-either no_run no_run-fits (is_full chunks.tail) chunks runs rest run hold fit.0) in
     unchunked-with_runs (with_run chunks before run) run (runs ++ run ∷ []) (rest_with (is_full chunks.tail) rest run) more
     (last_run-push no_run runs run) next fit.1
     ∙ append_assoc runs (run ∷ []) more
 
-Hold-none : Hold no_chunks [] []
-unfolding packed unchunked
-Hold-none = record { tail_is = refl; runs_are = refl; fit = tt; rest_fit = tt }
-
 -- runs in chunks come back
-chunks-back : (runs : List Run) → AllFit runs → runs_in (chunks_of runs) ≡ runs
+chunks-back : (runs : List Run) → AllByRecursion FitsRun runs → runs_in (chunks_of runs) ≡ runs
 unfolding last_run
-chunks-back runs fit = unchunked-with_runs no_chunks no_run [] [] runs refl Hold-none fit
+chunks-back runs fit = unchunked-with_runs no_chunks no_run [] [] runs refl (Hold-none no_run) fit
 
 -- ---- a run more
 
@@ -159,11 +156,11 @@ counted-more most count front before run few =
 
 -- ---- what is held
 
-with_runs-push : (chunks : ByteChunks) (before : Run) (runs : List Run) (run : Run)
-    → with_runs chunks before (runs ++ run ∷ []) ≡ with_run (with_runs chunks before runs) (last_run before runs) run
+pub with_runs-append : (chunks : ByteChunks) (before : Run) (runs more : List Run)
+    → with_runs chunks before (runs ++ more) ≡ with_runs (with_runs chunks before runs) (last_run before runs) more
 unfolding with_runs last_run
-with_runs-push chunks before [] run = refl
-with_runs-push chunks before (first ∷ runs) run = with_runs-push (with_run chunks before first) first runs run
+with_runs-append chunks before [] more = refl
+with_runs-append chunks before (first ∷ runs) more = with_runs-append (with_run chunks before first) first runs more
 
 pub runs_in-none : runs_in no_chunks ≡ []
 unfolding runs_in
@@ -178,26 +175,27 @@ ArePacked-none = record {
   few = omega arith;
 }
 
-AllFit-runs_in : (chunks : ByteChunks) → AllFit (runs_in chunks)
+pub AllFit-runs_in : (chunks : ByteChunks) → AllByRecursion FitsRun (runs_in chunks)
 unfolding runs_in
 AllFit-runs_in chunks = AllFit-unchunked no_run (in_order chunks)
 
 -- the chunks with a run more are those of the runs with it
 chunks_of-push : (chunks : ByteChunks) (last : Run) (count : ℕ) (run : Run) → ArePacked chunks last count
     → chunks_of (runs_in chunks ++ run ∷ []) ≡ with_run chunks last run
+unfolding with_runs
 chunks_of-push chunks last count run are =
-    with_runs-push no_chunks no_run (runs_in chunks) run
+    with_runs-append no_chunks no_run (runs_in chunks) (run ∷ [])
     ∙ ap (λ (held : ByteChunks). with_run held (last_run no_run (runs_in chunks)) run) are.exact
     ∙ ap (λ (before : Run). with_run chunks before run) are.ends
 
 -- a run that is put behind them
-pub runs_in-put : (chunks : ByteChunks) (last : Run) (count : ℕ) (run : Run) → ArePacked chunks last count → Fits run
+pub runs_in-put : (chunks : ByteChunks) (last : Run) (count : ℕ) (run : Run) → ArePacked chunks last count → FitsRun run
     → runs_in (with_run chunks last run) ≡ runs_in chunks ++ run ∷ []
 runs_in-put chunks last count run are fits =
     ap runs_in (sym (chunks_of-push chunks last count run are))
     ∙ chunks-back (runs_in chunks ++ run ∷ []) (AllFit-append (runs_in chunks) (run ∷ []) (AllFit-runs_in chunks) (fits, tt))
 
-pub ArePacked-put : (chunks : ByteChunks) (last : Run) (count : ℕ) (run : Run) → ArePacked chunks last count → Fits run
+pub ArePacked-put : (chunks : ByteChunks) (last : Run) (count : ℕ) (run : Run) → ArePacked chunks last count → FitsRun run
     → count + 1 ≤ 2 ^ 62 + length (with_run chunks last run).tail → ArePacked (with_run chunks last run) run (count + 1)
 ArePacked-put chunks last count run are fits few =
     let back = runs_in-put chunks last count run are fits in

@@ -4,3 +4,4 @@ pub mod RunLemmas
 pub mod PackedLemmas
 pub mod ChunkLemmas
 pub mod PlaceLemmas
+pub mod EndLemmas

@@ -1,10 +1,11 @@
 -- Packed runs come back, and a run that is put behind them.
 use Rattle.std.proofs.Common.{◌≡◌, ℕ, zero, suc, ◌≤◌, List, [], ◌∷◌, ◌++◌, length, Option, Some, None, refl, sym, ap, ◌∙◌, append_assoc, arith}
+use Rattle.std.specs.List.{AllByRecursion}
 use Rattle.std.proofs.lemmas.List.{append-nil}
 use Rattle.pd_thin_meaning.specs.declared.joined.Run.{Run}
 use Rattle.pd_runs.specs.Packed.{last_run, no_run, packed, run_and_more, unpacked, unpacked_within}
-use Rattle.pd_runs.specs.Runs.{packed_run, run_at}
-use Rattle.pd_runs.proofs.RunLemmas.{Fits, run_at-fits, run_at-none, run_at-packed, run_at-shorter}
+use Rattle.pd_runs.specs.Runs.{FitsRun, packed_run, run_at}
+use Rattle.pd_runs.proofs.RunLemmas.{run_at-fits, run_at-none, run_at-packed, run_at-shorter}
 
 -- ---- run by run
 
@@ -55,31 +56,27 @@ unpacked-empty before = unpacked-none before [] (run_at-none before)
 
 -- ---- they fit
 
-abbrev pub AllFit : List Run → Type 0
-AllFit [] = Unit {0}
-AllFit (run ∷ runs) = Fits run × AllFit runs
-
 AllFit-more : (o : Option (Run × List ℕ)) (f : Run → List ℕ → List Run)
-    → ((got : Run × List ℕ) → o ≡ Some got → Fits got.0 × AllFit (f got.0 got.1)) → AllFit (run_and_more o f)
+    → ((got : Run × List ℕ) → o ≡ Some got → FitsRun got.0 × AllByRecursion FitsRun (f got.0 got.1)) → AllByRecursion FitsRun (run_and_more o f)
 AllFit-more None f fit = tt
 AllFit-more (Some got) f fit = fit got refl
 
-AllFit-within : (most : ℕ) (before : Run) (bytes : List ℕ) → AllFit (unpacked_within most before bytes)
+AllFit-within : (most : ℕ) (before : Run) (bytes : List ℕ) → AllByRecursion FitsRun (unpacked_within most before bytes)
 unfolding unpacked_within
 AllFit-within zero before bytes = tt
 AllFit-within (suc most) before bytes =
     AllFit-more (run_at before bytes) (unpacked_within most)
     (λ got is. (run_at-fits before bytes got is, AllFit-within most got.0 got.1))
 
-pub AllFit-unpacked : (before : Run) (bytes : List ℕ) → AllFit (unpacked before bytes)
+pub AllFit-unpacked : (before : Run) (bytes : List ℕ) → AllByRecursion FitsRun (unpacked before bytes)
 unfolding unpacked
 AllFit-unpacked before bytes = AllFit-within (length bytes) before bytes
 
-pub AllFit-append : (runs more : List Run) → AllFit runs → AllFit more → AllFit (runs ++ more)
+pub AllFit-append : (runs more : List Run) → AllByRecursion FitsRun runs → AllByRecursion FitsRun more → AllByRecursion FitsRun (runs ++ more)
 AllFit-append [] more fit fits = fits
 AllFit-append (run ∷ runs) more fit fits = (fit.0, AllFit-append runs more fit.1 fits)
 
-pub Fits-last : (before : Run) (runs : List Run) → Fits before → AllFit runs → Fits (last_run before runs)
+pub Fits-last : (before : Run) (runs : List Run) → FitsRun before → AllByRecursion FitsRun runs → FitsRun (last_run before runs)
 unfolding last_run
 Fits-last before [] fits fit = fits
 Fits-last before (run ∷ runs) fits fit = Fits-last run runs fit.0 fit.1
@@ -87,7 +84,7 @@ Fits-last before (run ∷ runs) fits fit = Fits-last run runs fit.0 fit.1
 -- ---- the way back
 
 -- packed runs come back
-pub unpacked-packed : (before : Run) (runs : List Run) → Fits before → AllFit runs → unpacked before (packed before runs) ≡ runs
+pub unpacked-packed : (before : Run) (runs : List Run) → FitsRun before → AllByRecursion FitsRun runs → unpacked before (packed before runs) ≡ runs
 unfolding packed
 unpacked-packed before [] fits fit = unpacked-empty before
 unpacked-packed before (run ∷ runs) fits fit =
@@ -112,5 +109,5 @@ pub last_run-push : (before : Run) (runs : List Run) (run : Run) → last_run be
 unfolding last_run
 last_run-push before runs run = last_run-append before runs (run ∷ [])
 
-pub no_run-fits : Fits no_run
+pub no_run-fits : FitsRun no_run
 no_run-fits = record { virt_fits = omega arith; target_fits = omega arith; length_fits = omega arith; time_fits = omega arith }

@@ -4,16 +4,9 @@ use Rattle.std.proofs.Math.Nat.{mod-eq_of_lt, mod-lt}
 use Rattle.pd_thin_meaning.specs.declared.joined.Run.{Run}
 use Rattle.pd_runs.specs.Differences.{distance, folded, moved, unfolded}
 use Rattle.pd_runs.specs.Numbers.{number_at, packed_number}
-use Rattle.pd_runs.specs.Runs.{packed_run, placed, run_at}
+use Rattle.pd_runs.specs.Runs.{FitsRun, packed_run, placed, run_at}
 use Rattle.pd_runs.proofs.DifferenceLemmas.{distance-fits, folded-fits, moved-distance, moved-fits, unfolded-folded}
 use Rattle.pd_runs.proofs.NumberLemmas.{length-packed_number, number_at-fits, number_at-none, number_at-packed, number_at-shorter}
-
--- each number of a run fits its place
-pub record Fits (run : Run) : Type 0 where
-  pub virt_fits : run.virt < 2 ^ 64
-  pub target_fits : run.target < 2 ^ 64
-  pub length_fits : run.length < 2 ^ 64
-  pub time_fits : run.time < 2 ^ 32
 
 -- ---- the four numbers
 
@@ -57,7 +50,7 @@ same_run a b one two three four =
     ∙ ap (λ (blocks : ℕ). made b.virt b.target blocks a.time) three
     ∙ ap (λ (time : ℕ). made b.virt b.target b.length time) four
 
-placed-packed : (before run : Run) → Fits before → Fits run
+placed-packed : (before run : Run) → FitsRun before → FitsRun run
     → placed before (distance (moved before.virt before.length) run.virt)
     (folded (distance (moved before.target before.length) run.target)) run.length
     (folded (distance before.time run.time)) ≡ run
@@ -77,7 +70,7 @@ placed-packed before run there here =
     ∙ mod-eq_of_lt here.time_fits)
 
 -- a run comes back
-pub run_at-packed : (before run : Run) (bytes : List ℕ) → Fits before → Fits run
+pub run_at-packed : (before run : Run) (bytes : List ℕ) → FitsRun before → FitsRun run
     → run_at before (packed_run before run ++ bytes) ≡ Some (run, bytes)
 unfolding packed_run
 run_at-packed before run bytes there here =
@@ -177,7 +170,7 @@ run_at-shorter before bytes got is =
       number_at-shorter has.length.1 has.change has.four,
     ))
 
-placed-fits : (before : Run) (gap step length change : ℕ) → length < 2 ^ 64 → Fits (placed before gap step length change)
+placed-fits : (before : Run) (gap step length change : ℕ) → length < 2 ^ 64 → FitsRun (placed before gap step length change)
 unfolding placed
 placed-fits before gap step length change fits = record {
   virt_fits = moved-fits (moved before.virt before.length) gap;
@@ -187,7 +180,7 @@ placed-fits before gap step length change fits = record {
 }
 
 -- whatever the bytes are, the run fits
-pub run_at-fits : (before : Run) (bytes : List ℕ) (got : Run × List ℕ) → run_at before bytes ≡ Some got → Fits got.0
+pub run_at-fits : (before : Run) (bytes : List ℕ) (got : Run × List ℕ) → run_at before bytes ≡ Some got → FitsRun got.0
 run_at-fits before bytes got is =
     let has = has_run before bytes got is in
     rw (← has.run_is) (placed-fits before has.gap.0 has.step.0 has.length.0 has.change.0 (number_at-fits has.step.1 has.length has.three))

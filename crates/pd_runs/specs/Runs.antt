@@ -1,9 +1,16 @@
 -- A run as bytes: four numbers that tell it from the run before.
-use Rattle.std.specs.Prelude.{ℕ, ◌%◌, ◌^◌, List, ◌++◌, Option, Some}
+use Rattle.std.specs.Prelude.{ℕ, ◌%◌, ◌^◌, ◌<◌, List, ◌++◌, Option, Some}
 use Rattle.std.specs.Option.{option_and_then}
 use Rattle.pd_thin_meaning.specs.declared.joined.Run.{Run}
 use Rattle.pd_runs.specs.Differences.{distance, folded, moved, unfolded}
 use Rattle.pd_runs.specs.Numbers.{number_at, packed_number}
+
+-- the numbers of a run fit their places
+pub record FitsRun (run : Run) : Type 0 where
+  pub virt_fits : run.virt < 2 ^ 64
+  pub target_fits : run.target < 2 ^ 64
+  pub length_fits : run.length < 2 ^ 64
+  pub time_fits : run.time < 2 ^ 32
 
 -- the next number needs the bytes behind this one
 infixl 10 ◌>>=◌

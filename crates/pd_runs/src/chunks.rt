@@ -92,6 +92,20 @@ impl Chunks {
         Ok(())
     }
 
+    /// How many chunks are done.
+    pub(crate) fn done(&self) -> usize
+        ensures { result ≡ length self.now.full }
+    {
+        self.full.len()
+    }
+
+    /// How many bytes the open chunk has.
+    pub(crate) fn in_tail(&self) -> usize
+        ensures { result ≡ length self.now.tail }
+    {
+        self.tail.len()
+    }
+
     /// The bytes of the chunk with this number, of which the open one is the last.
     fn chunk(&self, number: usize) -> &[u8]
         requires { number ≤ length self.now.full }

@@ -42,6 +42,10 @@ impl Model for PackedRuns {
 }
 
 impl PackedRuns {
+    ghost use Rattle.std.specs.List.{AllByRecursion};
+    ghost use Rattle.pd_runs.specs.Places.{IsEnd};
+    ghost use Rattle.pd_runs.specs.Runs.{FitsRun};
+
     /// No runs. It takes no memory.
     pub fn new(alloc: Global) -> PackedRuns
         ensures { result ≡ [] }
@@ -90,6 +94,18 @@ impl PackedRuns {
             chunk: 0,
             at: 0,
             before: NO_RUN,
+        }
+    }
+
+    /// The place behind the last run, from which those that are pushed later are read.
+    pub fn end(&self) -> RunPlace
+        ensures end { IsEnd self.now result }
+        ensures fits { AllByRecursion FitsRun self.now }
+    {
+        RunPlace {
+            chunk: self.chunks.done(),
+            at: self.chunks.in_tail(),
+            before: self.last,
         }
     }
 
