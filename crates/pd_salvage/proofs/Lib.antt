@@ -1,6 +1,7 @@
 pub mod RangeLemmas
 pub mod AscendLemmas
 pub mod WayLemmas
+pub mod KnownLemmas
 pub mod ToldLemmas
 pub mod DetailsLemmas
 pub mod JoiningLemmas

@@ -4,6 +4,7 @@ use Rattle.std.specs.List.{AllByRecursion}
 use Rattle.std.specs.Option.{option_map, unwrap_or}
 use Rattle.std.proofs.lemmas.List.{append-nil, length-append, length-drop, map-append, take-append-le, drop-append-le}
 use Rattle.std.proofs.lemmas.List.Sums.{sum_by-append}
+use Rattle.std.proofs.lemmas.Option.{IfSome_then}
 use Rattle.pd_kinds.specs.declared.thin_super.ThinSuper.{ThinSuper}
 use Rattle.pd_kinds.specs.Edge.{is_outside}
 use Rattle.pd_kinds.specs.Meaning.{Mapping, ThinDevice}
@@ -11,6 +12,8 @@ use Rattle.pd_kinds.specs.Node.{Entry}
 use Rattle.pd_kinds.specs.ThinFormat.{mapped_block, mapped_time}
 use Rattle.pd_kinds.specs.Trees.{value_of_key}
 use Rattle.pd_kinds.specs.Value.{details_code}
+use Rattle.pd_runs.specs.Places.{runs_from}
+use Rattle.pd_runs.specs.Runs.{FitsRun}
 use Rattle.pd_value.specs.declared.thin.BlockTime.{BlockTime}
 use Rattle.pd_value.specs.declared.thin.Details.{Details}
 use Rattle.pd_value.specs.declared.thin.Root.{Root}
@@ -26,12 +29,13 @@ use Rattle.pd_tree.proofs.EntryLemmas.{lookup_entries}
 use Rattle.pd_tree.proofs.NextLemmas.{if_both}
 use Rattle.pd_salvage.specs.declared.cursor.SavedCursor.{SavedCursor}
 use Rattle.pd_salvage.specs.declared.saved.SavedDevice.{SavedDevice}
+use Rattle.pd_salvage.specs.declared.saving.LastDevice.{LastDevice}
 use Rattle.pd_salvage.specs.declared.saving.Saving.{Saving}
 use Rattle.pd_salvage.specs.Cursor.{saved_left, saved_least}
 use Rattle.pd_salvage.specs.Details.{IsFoundOr, details_left}
 use Rattle.pd_salvage.specs.Gather.{IsGathered, mappings_of_runs, to_come}
 use Rattle.pd_salvage.specs.Saved.{IsJoined, IsSavedPool, part_of, parts_of, pool_of, runs_of_devices}
-use Rattle.pd_salvage.specs.Saving.{FitLost, FitsDevice, FitsHead, IsSaved, IsSaving, KnowsFrom, SavesDevice, devices_of, entry_of, head_of, lost_details, saved_device, saved_devices, saved_pool}
+use Rattle.pd_salvage.specs.Saving.{FitLost, FitsDevice, FitsHead, IsSaved, IsSaving, KnowsFrom, SavesDevice, StandsLast, devices_of, entry_of, head_of, lost_details, mappings_at, saved_device, saved_devices, saved_pool}
 
 take_all : {X : Type 0} (xs : List X) → take (length xs) xs ≡ xs
 take_all [] = refl
@@ -151,12 +155,10 @@ pub record Saves (s : ThinSuper) (image : List (List ℕ)) (saving : Saving) : T
       ≡ devices_of s image (map (item_of root_of) (salvaged_entries 8 s.meta_map.blocks image s.mapping_root))
 
 -- one device more was saved
-module _ (held : Option (List (List ℕ))) (id root mapped runs : ℕ) (details : Details) (old new : Saving) (cursor : SavedCursor BlockTime)
+module _ (held : Option (List (List ℕ))) (id root mapped runs : ℕ) (details : Details) (old new : Saving)
     (small : FitLost old.s.transaction old.s.time) (same : new.s ≡ old.s)
     (found : IfSome held (λ image. IsFoundOr (lost_details old.s.transaction old.s.time) id details (details_left image old.details) (details_left image new.details)))
-    (left : (image : List (List ℕ)) → saved_left 8 block_time_of image cursor ≡ map (item_of block_time_of) (salvaged_entries 8 old.s.meta_map.blocks image root))
-    (low : ℕ) (zero : low ≡ 0)
-    (gathered : IsGathered old.s.data_map.blocks low mapped held (λ image. to_come old.s.data_map.blocks image cursor) old.runs new.runs)
+    (gathered : IsGathered old.s.data_map.blocks 0 mapped held (λ image. mappings_at old.s image root) old.runs new.runs)
     (number : runs ≡ length gathered.given)
     (added : new.devices.items ≡ old.devices.items ++ saved_device id details mapped runs ∷ [])
     (fits : FitsDevice (saved_device id details mapped runs)) where
@@ -165,10 +167,10 @@ module _ (held : Option (List (List ℕ))) (id root mapped runs : ℕ) (details 
     lawful = λ least from saving.
         rw added
         (saving_more old.s.data_map.blocks least old.devices.items old.runs new.runs gathered.given (saved_device id details mapped runs) saving.number number gathered.runs_are
-        saving fits from gathered.number gathered.joined (rw zero at gathered.lawful));
+        saving fits from gathered.number gathered.joined gathered.lawful);
     told =
         if_both held
-        (λ image held_is (is_found : IsFoundOr (lost_details old.s.transaction old.s.time) id details (details_left image old.details) (details_left image new.details)) (all : mappings_of_runs gathered.given ≡ to_come old.s.data_map.blocks image cursor). λ least from knows count. (
+        (λ image held_is (is_found : IsFoundOr (lost_details old.s.transaction old.s.time) id details (details_left image old.details) (details_left image new.details)) (all : mappings_of_runs gathered.given ≡ mappings_at old.s image root). λ least from knows count. (
           λ key after. is_found.later key (omega arith) ∙ (rw same (knows key (omega arith))),
           rw added
               (devices_more old.s.data_map.blocks least old.devices.items old.runs new.runs gathered.given (saved_device id details mapped runs) count number gathered.runs_are
@@ -176,10 +178,46 @@ module _ (held : Option (List (List ℕ))) (id root mapped runs : ℕ) (details 
               (device_is old.s image id root mapped details gathered.given small
               (is_found.here ∙ ap (λ (o : Option Details). unwrap_or o (lost_details old.s.transaction old.s.time)) (knows id from))
               gathered.number
-              (all ∙ ap (λ (items : List (ℕ × BlockTime)). map mapping_of (filter (λ (item : ℕ × BlockTime). nat_lt item.1.block old.s.data_map.blocks) items)) (left image)))),
+              all)),
         ))
         found gathered.told;
   }
+
+-- the runs of a tree that was gathered
+pub gathered_tree : (held : Option (List (List ℕ))) (s : ThinSuper) (root low mapped : ℕ) (cursor : SavedCursor BlockTime) (before runs : List Run)
+    → ((image : List (List ℕ)) → saved_left 8 block_time_of image cursor ≡ map (item_of block_time_of) (salvaged_entries 8 s.meta_map.blocks image root)) → low ≡ 0
+    → IsGathered s.data_map.blocks low mapped held (λ image. to_come s.data_map.blocks image cursor) before runs
+    → IsGathered s.data_map.blocks 0 mapped held (λ image. mappings_at s image root) before runs
+gathered_tree held s root low mapped cursor before runs left zero gathered = record {
+  given = gathered.given;
+  runs_are = gathered.runs_are;
+  joined = gathered.joined;
+  number = gathered.number;
+  lawful = rw zero at gathered.lawful;
+  told =
+      IfSome_then held gathered.told
+      (λ image all. all ∙ ap (λ (items : List (ℕ × BlockTime)). map mapping_of (filter (λ (item : ℕ × BlockTime). nat_lt item.1.block s.data_map.blocks) items)) (left image));
+}
+
+-- the last of some runs fit where all do
+last_fit : (before given : List Run) → AllByRecursion FitsRun (before ++ given) → AllByRecursion FitsRun given
+last_fit [] given fit = fit
+last_fit (run ∷ before) given fit = last_fit before given fit.1
+
+-- the runs of the device that was saved last, once more
+pub gathered_again : (held : Option (List (List ℕ))) (s : ThinSuper) (last : LastDevice) (runs new : List Run) → StandsLast held s last runs → AllByRecursion FitsRun runs → new ≡ runs ++ runs_from runs last.place
+    → IsGathered s.data_map.blocks 0 last.mappings held (λ image. mappings_at s image last.root) runs new
+gathered_again held s last runs new stands fit is =
+    let gathered = stands.gathered in
+    let read : runs_from (stands.before ++ gathered.given) last.place ≡ gathered.given = stands.is_end gathered.given (last_fit stands.before gathered.given (rw gathered.runs_are at fit)) in
+    record {
+      given = gathered.given;
+      runs_are = is ∙ ap (λ (more : List Run). runs ++ more) (ap (λ (all : List Run). runs_from all last.place) gathered.runs_are ∙ read);
+      joined = gathered.joined;
+      number = gathered.number;
+      lawful = gathered.lawful;
+      told = gathered.told;
+    }
 
 -- devices that may come later
 later_devices : (blocks low least : ℕ) (ds : List ThinDevice) → low ≤ least → AreDevices blocks least ds → AreDevices blocks low ds

@@ -1,5 +1,5 @@
 -- What is told of what is left on the way.
-use Rattle.std.proofs.Common.{◌≡◌, inl, inr, ℕ, zero, suc, ◌+◌, ◌-◌, ◌<◌, Bool, true, false, List, [], ◌∷◌, ◌++◌, map, filter, Option, refl, sym, ap, ◌∙◌, arith}
+use Rattle.std.proofs.Common.{◌≡◌, inl, inr, ℕ, zero, suc, ◌-◌, ◌<◌, Bool, true, false, List, [], ◌∷◌, ◌++◌, map, filter, Option, refl, sym, ap, ◌∙◌, arith}
 use Rattle.std.specs.List.{flat_map, range_with_len}
 use Rattle.std.proofs.lemmas.Bool.{cases_Bool}
 use Rattle.std.proofs.lemmas.Grind.{flat_map-append}
@@ -18,7 +18,7 @@ use Rattle.pd_tree.specs.Stack.{last_place, stacked}
 use Rattle.pd_salvage.specs.declared.range.Range.{Range}
 use Rattle.pd_salvage.specs.declared.way.Way.{Way}
 use Rattle.pd_salvage.specs.Range.{child_range, given_below, is_in_range, is_wanted, items_of_visit, saved_below}
-use Rattle.pd_salvage.specs.Steps.{GivesEntry, GoesDown, Passes, PopsNode, PushesNode, SameWay}
+use Rattle.pd_salvage.specs.Steps.{GivesEntry, PopsNode, PushesNode, SameWay}
 use Rattle.pd_salvage.specs.Way.{Left, entry, frontier, left_from, nodes, saved_on, told, told_on}
 use Rattle.pd_salvage.proofs.RangeLemmas.{at_inner, at_leaf, none_damaged, none_deep, unwanted}
 
@@ -42,6 +42,7 @@ pushed_popped size held b range old pushed popped pushes pops =
       depth = depth;
       left = rw (depth, pops.places, pops.ranges) pushes.under;
       number = rw (depth, pops.places) pushes.number_under;
+      knows = λ good image known. pops.knows good image (pushes.knows good image known);
     }
 
 -- a sound inner node that was read is told as what is given below it

@@ -4,6 +4,7 @@ use Rattle.pd_tree.specs.Cursor.{root_left, root_number}
 use Rattle.pd_salvage.specs.declared.cursor.SavedCursor.{SavedCursor}
 use Rattle.pd_salvage.specs.Ascending.{ascending_from}
 use Rattle.pd_salvage.specs.Range.{all_keys, saved_below}
+use Rattle.pd_salvage.specs.Known.{KnowsUndamaged}
 use Rattle.pd_salvage.specs.Way.{saved_on, way_number}
 
 -- the entries that are left
@@ -18,6 +19,10 @@ saved_least cursor = cursor.least
 -- a number that falls with each entry
 abbrev pub saved_number : {V : Type 0} → ℕ → SavedCursor V → ℕ
 saved_number size cursor = root_number cursor.root + way_number size cursor.way
+
+-- what the cursor knows of its places holds of an image
+abbrev pub KnowsSaved : {V : Type 0} → ℕ → List (List ℕ) → SavedCursor V → Type 0
+KnowsSaved size image cursor = KnowsUndamaged size image cursor.way
 
 -- how many blocks the device must have
 abbrev pub saved_room : {V : Type 0} → SavedCursor V → ℕ

@@ -1,5 +1,6 @@
 pub mod Range
 pub mod Way
+pub mod Known
 pub mod Steps
 pub mod Ascending
 pub mod Cursor

@@ -1,24 +1,29 @@
 -- A pool that is being saved.
-use Rattle.std.specs.Prelude.{◌≡◌, ℕ, ◌+◌, ◌^◌, ◌<◌, ◌≤◌, not, List, [], ◌∷◌, ◌++◌, length, map, filter, Option, IfSome}
+use Rattle.std.specs.Prelude.{◌≡◌, ℕ, ◌+◌, ◌^◌, ◌<◌, ◌≤◌, not, List, [], ◌∷◌, ◌++◌, length, map, filter, nat_lt, Option, None, IfSome}
 use Rattle.std.specs.List.{All, AllByRecursion}
 use Rattle.pd_kinds.specs.declared.thin_super.ThinSuper.{ThinSuper}
 use Rattle.pd_kinds.specs.Edge.{is_outside}
-use Rattle.pd_kinds.specs.Meaning.{ThinDevice}
+use Rattle.pd_kinds.specs.Meaning.{Mapping, ThinDevice}
 use Rattle.pd_kinds.specs.Node.{Entry}
+use Rattle.pd_runs.specs.Places.{IsEnd}
+use Rattle.pd_value.specs.declared.thin.BlockTime.{BlockTime}
 use Rattle.pd_value.specs.declared.thin.Details.{Details}
 use Rattle.pd_value.specs.declared.thin.Root.{Root}
 use Rattle.pd_laid.specs.Salvage.{salvaged_entries, salvaged_device}
 use Rattle.pd_thin_meaning.specs.declared.joined.Run.{Run}
-use Rattle.pd_thin_meaning.specs.Items.{details_of}
+use Rattle.pd_thin_meaning.specs.Items.{block_time_of, details_of}
+use Rattle.pd_thin_meaning.specs.Joined.{mapping_of}
 use Rattle.pd_spells.specs.Lawful.{AreDevices}
 use Rattle.pd_spells.specs.ThinText.{device_of_part}
 use Rattle.pd_tree.specs.Items.{item_of, root_of}
 use Rattle.pd_tree.specs.Search.{lookup}
 use Rattle.pd_salvage.specs.declared.saved.SavedDevice.{SavedDevice}
 use Rattle.pd_salvage.specs.declared.saved.SavedHead.{SavedHead}
+use Rattle.pd_salvage.specs.declared.saving.LastDevice.{LastDevice}
 use Rattle.pd_salvage.specs.declared.saving.Saving.{Saving}
 use Rattle.pd_salvage.specs.Cursor.{saved_left, saved_least, saved_room}
 use Rattle.pd_salvage.specs.Details.{details_left, details_room}
+use Rattle.pd_salvage.specs.Gather.{IsGathered}
 use Rattle.pd_salvage.specs.Saved.{IsJoined, SavedPool, parts_of, runs_of_devices}
 
 -- the head of a pool with this superblock
@@ -57,6 +62,7 @@ pub record IsStarted (s : ThinSuper) (saving : Saving) : Type 0 where
   pub ready : HasReadyCursors saving
   pub devices : saving.devices.items ≡ []
   pub runs : saving.runs ≡ []
+  pub last : saving.last ≡ None
   pub tops_left : (image : List (List ℕ)) → saved_left 8 root_of image saving.tops ≡ map (item_of root_of) (salvaged_entries 8 s.meta_map.blocks image s.mapping_root)
   pub least : saved_least saving.tops ≡ 0
   pub details : (image : List (List ℕ)) → details_left image saving.details ≡ map (item_of details_of) (all_details s image)
@@ -69,6 +75,21 @@ entry_of item = record { key = item.0; value = item.1.0 }
 abbrev pub devices_of : ThinSuper → List (List ℕ) → List (ℕ × Root) → List ThinDevice
 devices_of s image items =
     map (λ item. salvaged_device s image (entry_of item)) (filter (λ (item : ℕ × Root). not (is_outside s.meta_map.blocks item.1.0)) items)
+
+-- the mappings that are saved below a root
+abbrev pub mappings_at : ThinSuper → List (List ℕ) → ℕ → List Mapping
+mappings_at s image root =
+    map mapping_of (filter (λ (item : ℕ × BlockTime). nat_lt item.1.block s.data_map.blocks) (map (item_of block_time_of) (salvaged_entries 8 s.meta_map.blocks image root)))
+
+-- the last runs are those of a device, and are read from its place on
+pub record StandsLast (held : Option (List (List ℕ))) (s : ThinSuper) (last : LastDevice) (runs : List Run) : Type 0 where
+  pub before : List Run
+  pub is_end : IsEnd before last.place
+  pub gathered : IsGathered s.data_map.blocks 0 last.mappings held (λ image. mappings_at s image last.root) before runs
+
+-- so they are where a device was saved
+abbrev pub KnowsLast : Option (List (List ℕ)) → Saving → Type 0
+KnowsLast held saving = IfSome saving.last (λ last. StandsLast held saving.s last saving.runs)
 
 -- the details of ids from this one on can be found
 abbrev pub KnowsFrom : ℕ → List (List ℕ) → Saving → Type 0

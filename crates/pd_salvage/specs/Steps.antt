@@ -1,11 +1,12 @@
 -- How the way grows by a node and loses one, and what a step on it takes.
-use Rattle.std.specs.Prelude.{◌≡◌, ℕ, ◌+◌, ◌-◌, ◌<◌, ◌≤◌, Bool, true, List, ◌∷◌, ◌++◌, Option, IfSome}
+use Rattle.std.specs.Prelude.{◌≡◌, ℕ, ◌+◌, ◌-◌, ◌<◌, ◌≤◌, Bool, true, false, List, ◌∷◌, ◌++◌, Option, None, IfSome}
 use Rattle.pd_kinds.specs.Graph.{block_at}
 use Rattle.pd_tree.specs.Stack.{child_weight, last_place, weigh}
 use Rattle.pd_salvage.specs.declared.range.Range.{Range}
 use Rattle.pd_salvage.specs.declared.way.Taken.{Taken}
 use Rattle.pd_salvage.specs.declared.way.Taken.TheVariants as t
 use Rattle.pd_salvage.specs.declared.way.Way.{Way}
+use Rattle.pd_salvage.specs.Known.{HoldsBlock, KeepsKnown, KnowsPlaces}
 use Rattle.pd_salvage.specs.Way.{entry, frontier, left_from, left_to, node, way_number}
 
 -- a block was read into the next place
@@ -16,18 +17,30 @@ pub record PushesNode (size : ℕ) (held : Option (List (List ℕ))) (b : ℕ) (
   pub left : frontier size new ≡ left_from size (63 - old.stack.depth) range (last_place new.stack).block.0 0 ++ frontier size old
   pub number : way_number size new < way_number size old + child_weight (64 - old.stack.depth)
   pub number_under : weigh size new.stack.places.items old.stack.depth ≡ way_number size old
+  pub knows : KeepsKnown old new
+
+-- the block stood in the next place, and was taken once more
+pub record TakesNode (size b : ℕ) (range : Range) (old new : Way) : Type 0 where
+  pub pushes : PushesNode size None b range old new
+  pub holds : (good : ℕ → List ℕ → Bool) (image : List (List ℕ)) → KnowsPlaces good image old → HoldsBlock good image b (last_place new.stack)
+
+abbrev pub TakesAgain : ℕ → Bool → ℕ → Range → Way → Way → Type 0
+TakesAgain size true b range old new = TakesNode size b range old new
+TakesAgain size false b range old new = new ≡ old
 
 -- the last node was forgotten
 pub record PopsNode (old new : Way) : Type 0 where
   pub depth : new.stack.depth + 1 ≡ old.stack.depth
   pub places : new.stack.places ≡ old.stack.places
   pub ranges : new.ranges ≡ old.ranges
+  pub knows : KeepsKnown old new
 
 -- the same is left
 pub record SameWay (size : ℕ) (old new : Way) : Type 0 where
   pub depth : new.stack.depth ≡ old.stack.depth
   pub left : frontier size new ≡ frontier size old
   pub number : way_number size new ≡ way_number size old
+  pub knows : KeepsKnown old new
 
 -- nothing was taken, and the same is left
 pub record Passes (size : ℕ) (old new : Way) : Type 0 where

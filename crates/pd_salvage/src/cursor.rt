@@ -20,6 +20,9 @@ const KEYS_END: u128 = 18446744073709551616;
 /// It holds the nodes on the way to the next entry, in places with room for a block each: the memory of 64 is reserved,
 /// and used as far as the tree is deep. The entry that a call gives, and then what is left after it, are what was left
 /// before it. Over any device the keys ascend.
+///
+/// Within a call an undamaged block isn't read again while it stands in the place of its depth. A call knows nothing of
+/// the places from the calls before it, as those may have had another device.
 #[derive(Drop)]
 pub struct SavedCursor<V> {
     way: Way,
@@ -41,7 +44,8 @@ impl<V: Value> SavedCursor<V> {
     ghost use Rattle.pd_tree.specs.Cursor.{root_left};
     ghost use Rattle.pd_tree.specs.Items.{item_of};
     ghost use Rattle.pd_tree.specs.Next.{IsNext};
-    ghost use Rattle.pd_salvage.specs.Cursor.{saved_left, saved_least, saved_number, saved_room};
+    ghost use Rattle.pd_salvage.specs.Cursor.{KnowsSaved, saved_left, saved_least, saved_number, saved_room};
+    ghost use Rattle.pd_salvage.specs.Known.{KnowsUndamaged};
     ghost use Rattle.pd_salvage.specs.Range.{all_keys, saved_below};
     ghost use Rattle.pd_salvage.specs.Way.{saved_on, way_number};
 
@@ -69,6 +73,7 @@ impl<V: Value> SavedCursor<V> {
         ensures left { (image : List (List ℕ)) → saved_left V.SIZE V.decoded image self.new ≡ map (item_of V.decoded) (salvaged_entries V.SIZE nr image root) }
         ensures least { saved_least self.new ≡ 0 }
         ensures room { saved_room self.new ≡ nr }
+        ensures knows { (image : List (List ℕ)) → KnowsSaved V.SIZE image self.new }
     {
         self.way.clear();
         self.nr = nr;
@@ -93,6 +98,35 @@ impl<V: Value> SavedCursor<V> {
         ensures kept { OnlyReads (D.state dev.old) (D.state dev.new) }
         ensures faults { CountsFault result (D.state dev.old).faults (D.state dev.new).faults }
     {
+        self.forget();
+        self.next_known(dev)
+    }
+
+    /// Forgets which blocks stand in its places.
+    fn forget(&mut self)
+        ensures left { (image : List (List ℕ)) → saved_left V.SIZE V.decoded image self.new ≡ saved_left V.SIZE V.decoded image self.old }
+        ensures number { saved_number V.SIZE self.new ≡ saved_number V.SIZE self.old }
+        ensures same { (saved_least self.new ≡ saved_least self.old) × (saved_room self.new ≡ saved_room self.old) }
+        ensures knows { (image : List (List ℕ)) → KnowsSaved V.SIZE image self.new }
+    {
+        self.way.forget();
+    }
+
+    /// The next entry, as `next` gives it, where the places hold blocks of this device: such a block isn't read again.
+    pub(crate) fn next_known<D: Device>(&mut self, dev: &mut D) -> Result<Option<(u64, V)>, Failed>
+        requires attached { IsAttached (D.state dev.old) }
+        requires within { saved_room self.old ≤ (D.state dev.old).blocks }
+        requires knows { IfSome (D.state dev.old).held (λ image. KnowsSaved V.SIZE image self.old) }
+        ensures next { IfOk result (λ entry. IfSome (D.state dev.old).held (λ image.
+            IsNext entry (saved_left V.SIZE V.decoded image self.old) (saved_left V.SIZE V.decoded image self.new))) }
+        ensures ascends { IfOk result (λ entry. IfSome entry (λ item. (saved_least self.old ≤ item.0) × (saved_least self.new ≡ item.0 + 1))) }
+        ensures fits { IfOk result (λ entry. IfSome entry (λ item. V.fitting item.1 ≡ true)) }
+        ensures number { IfOk result (λ entry. IfSome entry (λ _. saved_number V.SIZE self.new < saved_number V.SIZE self.old)) }
+        ensures room { saved_room self.new ≡ saved_room self.old }
+        ensures knows { OnOk result (IfSome (D.state dev.old).held (λ image. KnowsSaved V.SIZE image self.new)) }
+        ensures kept { OnlyReads (D.state dev.old) (D.state dev.new) }
+        ensures faults { CountsFault result (D.state dev.old).faults (D.state dev.new).faults }
+    {
         self.enter_root(dev)?;
         match next_entry(&mut self.way, dev, self.nr, self.least)? {
             Some((key, value)) => {
@@ -107,9 +141,11 @@ impl<V: Value> SavedCursor<V> {
     fn enter_root<D: Device>(&mut self, dev: &mut D) -> Result<(), Failed>
         requires attached { IsAttached (D.state dev.old) }
         requires within { saved_room self.old ≤ (D.state dev.old).blocks }
+        requires knows { IfSome (D.state dev.old).held (λ image. KnowsUndamaged V.SIZE image self.old.way) }
         ensures left { OnOk result (IfSome (D.state dev.old).held (λ image. saved_on V.SIZE V.decoded self.new.nr image self.new.way
             ≡ root_left (saved_below V.SIZE V.decoded self.old.nr image 64 all_keys) self.old.root ++ saved_on V.SIZE V.decoded self.old.nr image self.old.way)) }
         ensures number { OnOk result (way_number V.SIZE self.new.way ≤ saved_number V.SIZE self.old) }
+        ensures knows { OnOk result (IfSome (D.state dev.old).held (λ image. KnowsUndamaged V.SIZE image self.new.way)) }
         ensures entered { self.new.root ≡ None }
         ensures same { (self.new.least ≡ self.old.least) × (saved_room self.new ≡ saved_room self.old) }
         ensures kept { OnlyReads (D.state dev.old) (D.state dev.new) }

@@ -1,8 +1,8 @@
 //! The mappings of a device, joined to runs.
 
-ghost use Rattle.std.specs.Prelude.{◌≡◌, ◌^◌, ◌<◌, ◌≤◌, IfOk};
+ghost use Rattle.std.specs.Prelude.{◌≡◌, ◌^◌, ◌<◌, ◌≤◌, IfOk, IfSome};
 ghost use Rattle.pd_image.specs.Device.{IsAttached, OnlyReads};
-ghost use Rattle.pd_salvage.specs.Cursor.{saved_least, saved_room};
+ghost use Rattle.pd_salvage.specs.Cursor.{KnowsSaved, saved_least, saved_room};
 ghost use Rattle.pd_salvage.specs.Faults.{CountsSalvage};
 ghost use Rattle.pd_salvage.specs.Gather.{IsGathered, run_of_mapping, to_come};
 
@@ -71,6 +71,7 @@ pub(crate) fn gather<D: Device>(
     requires attached { IsAttached (D.state dev.old) }
     requires within { saved_room mappings.old ≤ (D.state dev.old).blocks }
     requires few { blocks ≤ 2 ^ 40 }
+    requires knows { IfSome (D.state dev.old).held (λ image. KnowsSaved 8 image mappings.old) }
     ensures gathered { IfOk result (λ mapped. IsGathered blocks (saved_least mappings.old) mapped (D.state dev.old).held (λ image. to_come blocks image mappings.old) runs.old runs.new) }
     ensures room { saved_room mappings.new ≡ saved_room mappings.old }
     ensures kept { OnlyReads (D.state dev.old) (D.state dev.new) }
@@ -81,7 +82,7 @@ pub(crate) fn gather<D: Device>(
         mapped: 0,
     };
     loop {
-        match mappings.next(dev) {
+        match mappings.next_known(dev) {
             Ok(Some((virt, mapping))) => {
                 if mapping.block < blocks {
                     match gathering.take(runs, virt, mapping) {

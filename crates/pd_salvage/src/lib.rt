@@ -11,6 +11,7 @@ mod joined;
 mod packed_piece;
 mod pool;
 mod range;
+mod repeat;
 mod saved;
 mod saved_shape;
 mod saving;

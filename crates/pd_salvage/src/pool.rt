@@ -15,6 +15,8 @@ use std::alloc::Global;
 /// All that can be saved of the pool with this superblock.
 ///
 /// It takes the memory of three cursors over trees, 40 bytes a device, and for a run of mappings some 4 and at most 35.
+/// A device with the root of the device before it gets that one's runs once more, and no block is read for it. While they
+/// are put there, they take that memory twice.
 ///
 /// Fails with `Device` where a read failed, and with `Memory` where that memory wasn't found.
 pub fn salvage<D: Device>(

@@ -8,20 +8,33 @@ ghost use Rattle.pd_salvage.specs.Saving.{FitLost, FitsDevice, FitsHead, head_of
 use crate::cursor::SavedCursor;
 use crate::details::SavedDetails;
 use crate::gather::gather;
+use crate::repeat::repeat_runs;
 use crate::saved::{Salvage, SalvageFault, SavedDevice, SavedHead};
 use pd_image::Device;
 use pd_kinds::ThinSuper;
-use pd_runs::PackedRuns;
+use pd_runs::{PackedRuns, RunPlace};
 use pd_value::{BlockTime, Details, Root};
 use std::alloc::{AllocError, Global};
+
+/// The device that was saved last.
+#[derive(Clone, Copy)]
+pub(crate) struct LastDevice {
+    root: u64,
+    /// From where on its runs are read.
+    place: RunPlace,
+    /// How many mappings they have.
+    mappings: u64,
+}
 
 /// The devices and runs that were saved, and the cursors over what is left.
 #[derive(Drop)]
 pub(crate) struct Saving {
+    alloc: Global,
     s: ThinSuper,
     tops: SavedCursor<Root>,
     details: SavedDetails,
     mappings: SavedCursor<BlockTime>,
+    last: Option<LastDevice>,
     devices: Vec<SavedDevice>,
     runs: PackedRuns,
 }
@@ -32,7 +45,10 @@ impl Saving {
     ghost use Rattle.pd_laid.specs.Salvage.{salvage_from};
     ghost use Rattle.pd_salvage.specs.Faults.{CountsSalvage};
     ghost use Rattle.pd_salvage.specs.Saved.{pool_of};
-    ghost use Rattle.pd_salvage.specs.Saving.{HasReadyCursors, IsSaved, IsStarted, SavesDevice, saved_pool};
+    ghost use Rattle.std.specs.List.{AllByRecursion};
+    ghost use Rattle.pd_runs.specs.Runs.{FitsRun};
+    ghost use Rattle.pd_salvage.specs.Gather.{IsGathered};
+    ghost use Rattle.pd_salvage.specs.Saving.{HasReadyCursors, IsSaved, IsStarted, KnowsLast, SavesDevice, mappings_at, saved_pool};
 
     /// No device, and cursors before the first one.
     pub(crate) fn start(alloc: Global, s: &ThinSuper) -> Result<Saving, AllocError>
@@ -43,10 +59,12 @@ impl Saving {
         let details = SavedDetails::start(alloc, nr, s.details_root)?;
         let mappings = SavedCursor::start(alloc, nr, s.mapping_root)?;
         Ok(Saving {
+            alloc,
             s: *s,
             tops,
             details,
             mappings,
+            last: None,
             devices: Vec::new(alloc),
             runs: PackedRuns::new(alloc),
         })
@@ -77,6 +95,36 @@ impl Saving {
         }
     }
 
+    /// Adds the runs of the device with this root, and answers how many mappings they have. Where the device that was
+    /// saved last has the same root, its runs are put there once more, and no block is read.
+    fn gather_device<D: Device>(&mut self, dev: &mut D, root: u64) -> Result<u64, SalvageFault>
+        requires attached { IsAttached (D.state dev.old) }
+        requires within { self.old.s.meta_map.blocks ≤ (D.state dev.old).blocks }
+        requires few { self.old.s.data_map.blocks ≤ 2 ^ 40 }
+        requires last { KnowsLast (D.state dev.old).held self.old }
+        requires fits { AllByRecursion FitsRun self.old.runs }
+        ensures gathered { IfOk result (λ mapped. IsGathered self.old.s.data_map.blocks 0 mapped (D.state dev.old).held (λ image. mappings_at self.old.s image root) self.old.runs self.new.runs) }
+        ensures same { self.new ≡ record self.old { mappings = self.new.mappings; runs = self.new.runs } }
+        ensures kept { OnlyReads (D.state dev.old) (D.state dev.new) }
+        ensures faults { CountsSalvage result (D.state dev.old).faults (D.state dev.new).faults }
+    {
+        if let Some(last) = self.last {
+            if last.root == root {
+                return match repeat_runs(self.alloc, &mut self.runs, last.place) {
+                    Ok(()) => Ok(last.mappings),
+                    Err(_) => Err(SalvageFault::Memory),
+                };
+            }
+        }
+        self.mappings.restart(self.s.meta_map.blocks, root);
+        gather(
+            &mut self.mappings,
+            dev,
+            self.s.data_map.blocks,
+            &mut self.runs,
+        )
+    }
+
     /// Saves the device with this id and root.
     fn save_device<D: Device>(
         &mut self,
@@ -88,6 +136,8 @@ impl Saving {
         requires ready { HasReadyCursors self.old }
         requires within { self.old.s.meta_map.blocks ≤ (D.state dev.old).blocks }
         requires few { self.old.s.data_map.blocks ≤ 2 ^ 40 }
+        requires last { KnowsLast (D.state dev.old).held self.old }
+        ensures last { OnOk result (KnowsLast (D.state dev.old).held self.new) }
         ensures saves { OnOk result (SavesDevice (D.state dev.old).held id root self.old self.new) }
         ensures ready { HasReadyCursors self.new }
         ensures same { (self.new.s ≡ self.old.s) × (self.new.tops ≡ self.old.tops) }
@@ -100,13 +150,13 @@ impl Saving {
             Err(_) => return Err(SalvageFault::Device),
         };
         let first = self.runs.len();
-        self.mappings.restart(self.s.meta_map.blocks, root);
-        let mapped = gather(
-            &mut self.mappings,
-            dev,
-            self.s.data_map.blocks,
-            &mut self.runs,
-        )?;
+        let place = self.runs.end();
+        let mapped = self.gather_device(dev, root)?;
+        self.last = Some(LastDevice {
+            root,
+            place,
+            mappings: mapped,
+        });
         let runs = self.runs.len() - first;
         match add_device(&mut self.devices, id, details, mapped, runs) {
             Ok(()) => Ok(()),
@@ -122,10 +172,12 @@ impl Saving {
     {
         let head = head_of(&self.s);
         let Saving {
+            alloc: _,
             s: _,
             tops: _,
             details: _,
             mappings: _,
+            last: _,
             devices,
             runs,
         } = self;

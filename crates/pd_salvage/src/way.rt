@@ -1,6 +1,6 @@
 //! The nodes on the way from the root of a tree to what comes next.
 
-ghost use Rattle.std.specs.Prelude.{◌≡◌, not};
+ghost use Rattle.std.specs.Prelude.{◌≡◌, ◌≤◌, not};
 ghost use Rattle.std.specs.Vec.{vec_len};
 ghost use Rattle.pd_laid.specs.Salvage.{is_damaged};
 ghost use Rattle.pd_salvage.specs.Range.{is_wanted};
@@ -16,11 +16,21 @@ use std::alloc::{AllocError, Global};
 /// The way to what comes next, with the keys that are wanted of each node.
 ///
 /// It is for a caller who looks at each node and may forget it. The memory of 64 nodes is reserved in `new`.
+///
+/// A node that the way left still stands in its place, until another block is read into that place or into one before
+/// it. The way knows the blocks of the nodes that the caller kept: where it comes to such a block again, at the same
+/// depth, `again` takes it without a read.
 #[derive(Drop)]
 pub struct Way {
     stack: Stack,
     ranges: Vec<Range>,
+    /// The blocks that stand in the places from `from` on and before `known`.
+    blocks: Vec<u64>,
+    from: usize,
+    known: usize,
     ghost ranges_are: { vec_len ranges ≡ 64 },
+    ghost blocks_are: { vec_len blocks ≡ 64 },
+    ghost known_are: { known ≤ vec_len stack.places },
 }
 
 /// What a step takes.
@@ -35,12 +45,13 @@ pub enum Taken<V> {
 }
 
 impl Way {
-    ghost use Rattle.std.specs.Prelude.{◌≡◌, ◌-◌, ◌<◌, ◌↔◌, IsTrue, OnOk, IfOk};
+    ghost use Rattle.std.specs.Prelude.{◌≡◌, ℕ, ◌-◌, ◌<◌, ◌≤◌, ◌↔◌, true, IsTrue, OnOk, IfOk};
     ghost use Rattle.pd_kinds.specs.Objects.{CountsFault};
     ghost use Rattle.pd_image.specs.Device.{IsAttached, OnlyReads};
     ghost use Rattle.pd_tree.specs.Stack.{last_place};
     ghost use Rattle.pd_salvage.specs.Way.{range_at};
-    ghost use Rattle.pd_salvage.specs.Steps.{PopsNode, PushesNode, StepsOnWay};
+    ghost use Rattle.pd_salvage.specs.Known.{Forgets, KeepsKnown, KeepsNode, KnowsNothing, number_at};
+    ghost use Rattle.pd_salvage.specs.Steps.{PopsNode, PushesNode, StepsOnWay, TakesAgain};
 
     /// No node, and memory reserved for `LEVELS` of them.
     ///
@@ -50,7 +61,14 @@ impl Way {
     {
         let stack = Stack::new(alloc)?;
         let ranges = vec![in alloc; Range { low: 0, high: 0 }; LEVELS]?;
-        Ok(Way { stack, ranges })
+        let blocks = vec![in alloc; 0; LEVELS]?;
+        Ok(Way {
+            stack,
+            ranges,
+            blocks,
+            from: 0,
+            known: 0,
+        })
     }
 
     /// Whether nothing is left.
@@ -60,11 +78,23 @@ impl Way {
         self.stack.is_empty()
     }
 
-    /// Forgets all nodes.
+    /// Forgets all nodes, and which blocks stand in the places.
     pub fn clear(&mut self)
-        ensures { self.new.stack.depth ≡ 0 }
+        ensures depth { self.new.stack.depth ≡ 0 }
+        ensures knows { KnowsNothing self.new }
     {
         self.stack.clear();
+        self.from = 0;
+        self.known = 0;
+    }
+
+    /// Forgets which blocks stand in the places, as another device may come. The nodes on the way stay.
+    pub fn forget(&mut self)
+        ensures { Forgets self.old self.new }
+    {
+        let depth = self.stack.depth();
+        self.from = depth;
+        self.known = depth;
     }
 
     /// Reads a block into the next place, with the keys that are wanted of it.
@@ -83,9 +113,67 @@ impl Way {
         ensures kept { OnlyReads (D.state dev.old) (D.state dev.new) }
         ensures faults { CountsFault result (D.state dev.old).faults (D.state dev.new).faults }
     {
-        self.ranges[self.stack.depth()] = range;
+        let depth = self.stack.depth();
+        let from = self.known_from(depth);
+        self.from = 0;
+        self.known = 0;
+        self.ranges[depth] = range;
         self.stack.push::<V, D>(dev, b)?;
+        self.from = from;
+        self.known = depth;
         Ok(())
+    }
+
+    /// From which place on all before this one are known.
+    fn known_from(&self, depth: usize) -> usize
+        ensures { (d : ℕ) → result ≤ d → d < depth → (self.now.from ≤ d) × (d < self.now.known) }
+    {
+        if self.from <= depth && depth <= self.known {
+            self.from
+        } else {
+            depth
+        }
+    }
+
+    /// Takes a block into the next place without a read, with the keys that are wanted of it, and answers `true`, where
+    /// it is known that the block stands there. Else nothing changes.
+    pub fn again<V: Value>(&mut self, b: u64, range: Range) -> bool
+        requires room { self.old.stack.depth < 64 }
+        ensures { TakesAgain V.SIZE result b range self.old self.new }
+    {
+        if !self.stands_next(b) {
+            return false;
+        }
+        self.ranges[self.stack.depth()] = range;
+        self.stack.again::<V>();
+        true
+    }
+
+    /// Whether it is known that the block stands in the next place.
+    fn stands_next(&self, b: u64) -> bool
+        ensures known { result ≡ true → (self.now.from ≤ self.now.stack.depth) × (self.now.stack.depth < self.now.known) }
+        ensures number { result ≡ true → number_at self.now self.now.stack.depth ≡ b }
+    {
+        let depth = self.stack.depth();
+        if depth < self.from {
+            return false;
+        }
+        if depth >= self.known {
+            return false;
+        }
+        self.blocks[depth] == b
+    }
+
+    /// Knows that the block stands in the place of the last node. It must have been read there.
+    pub fn keep(&mut self, b: u64)
+        requires { 0 < self.old.stack.depth }
+        ensures { KeepsNode b self.old self.new }
+    {
+        let last = self.stack.depth() - 1;
+        if self.known == last {
+            self.blocks[last] = b;
+            self.known = last + 1;
+        }
     }
 
     /// The last node.
@@ -107,7 +195,8 @@ impl Way {
     /// Goes on at the last node.
     pub fn step<V: Value>(&mut self) -> Taken<V>
         requires { 0 < self.old.stack.depth }
-        ensures { StepsOnWay V.SIZE V.decoded V.fitting result self.old self.new }
+        ensures steps { StepsOnWay V.SIZE V.decoded V.fitting result self.old self.new }
+        ensures knows { KeepsKnown self.old self.new }
     {
         match self.stack.step::<V>() {
             Step::Passed => Taken::Passed,

@@ -12,7 +12,7 @@ use Rattle.pd_salvage.proofs.gather.gather.Goals as goal
 pub loop-virt-preserved-in-Ok : goal.loop-virt-preserved-in-Ok
 loop-virt-preserved-in-Ok g c =
     let now = c.loop-virt.mappings in
-    let later = c.next.new.self in
+    let later = c.next_known.new.self in
     let blocks = c.args.blocks in
     let virt = c.in-Ok-Some.virt in
     let value = c.in-Ok-Some.mapping in
@@ -34,6 +34,7 @@ loop-virt-preserved-in-Ok g c =
           c.take.new.runs c.take.new.self taken
           c.in-Ok.ensures.fits c.if-mapping-blocks.true (time_below value (rw c.in-Ok-Some.field-0-is at c.in-Ok-Some.ensures.fits)) comes;
       room = c.in-Ok-Some.ensures.room ∙ c.loop-virt.invariant.room;
+      knows = rw kept.held at c.in-Ok-Some.ensures.knows;
       kept = only_reads_both kept reads;
       faults = c.in-Ok-Some.ensures.faults ∙ c.loop-virt.invariant.faults;
     }
@@ -41,7 +42,7 @@ loop-virt-preserved-in-Ok g c =
 pub loop-virt-preserved : goal.loop-virt-preserved
 loop-virt-preserved g c =
     let now = c.loop-virt.mappings in
-    let later = c.next.new.self in
+    let later = c.next_known.new.self in
     let blocks = c.args.blocks in
     let virt = c.in-Ok-Some.virt in
     let value = c.in-Ok-Some.mapping in
@@ -61,6 +62,7 @@ loop-virt-preserved g c =
           (saved_least now) (saved_least later) c.args.runs.now c.loop-virt.runs c.loop-virt.gathering gathers virt value
           ascends.0 ascends.1 comes;
       room = c.in-Ok-Some.ensures.room ∙ c.loop-virt.invariant.room;
+      knows = rw kept.held at c.in-Ok-Some.ensures.knows;
       kept = only_reads_both kept reads;
       faults = c.in-Ok-Some.ensures.faults ∙ c.loop-virt.invariant.faults;
     }
@@ -68,7 +70,7 @@ loop-virt-preserved g c =
 pub returns-in-Ok-end-clause-gathered : goal.returns-in-Ok-end-clause-gathered
 returns-in-Ok-end-clause-gathered g c =
     let now = c.loop-virt.mappings in
-    let later = c.next.new.self in
+    let later = c.next_known.new.self in
     let blocks = c.args.blocks in
     let gathers = c.loop-virt.invariant.gathers in
     let kept = c.loop-virt.invariant.kept in

@@ -1,6 +1,6 @@
-use Rattle.std.proofs.Common.{◌≡◌}
+use Rattle.std.proofs.Common.{◌≡◌, IfSome}
 use Rattle.pd_image.specs.Device.{OnlyReads}
-use Rattle.pd_salvage.specs.Cursor.{saved_least, saved_number, saved_room}
+use Rattle.pd_salvage.specs.Cursor.{KnowsSaved, saved_least, saved_number, saved_room}
 use Rattle.pd_salvage.specs.Gather.{to_come}
 use Rattle.pd_salvage.proofs.GatherLemmas.{Gathers}
 use Rattle.pd_salvage.proofs.gather.gather.Given as goal
@@ -12,6 +12,7 @@ invariant-loop-virt g l = record {
       Gathers l.blocks (saved_least l.initial.mappings) (g.D.Device.state l.initial.dev).held (λ image. to_come l.blocks image l.initial.mappings) (λ image. to_come l.blocks image l.mappings)
       (saved_least l.mappings) l.initial.runs l.runs l.gathering;
   room : saved_room l.mappings ≡ saved_room l.initial.mappings;
+  knows : IfSome (g.D.Device.state l.initial.dev).held (λ image. KnowsSaved 8 image l.mappings);
   kept : OnlyReads (g.D.Device.state l.initial.dev) (g.D.Device.state l.dev);
   faults : (g.D.Device.state l.dev).faults ≡ (g.D.Device.state l.initial.dev).faults;
 }

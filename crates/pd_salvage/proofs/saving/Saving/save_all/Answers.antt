@@ -32,6 +32,7 @@ loop-id-preserved-in-Continue-1 g c =
     record {
       saving = one_sound held id root old new tops ascends.0 ascends.1 next inv.saving inv.told same.0 same.1 inside saves;
       told = one_told held id root old new tops ascends.0 ascends.1 next inv.saving inv.told same.0 same.1 inside saves;
+      last = rw kept.held at c.in_ok-save_device-in-Ok-Some.ensures.last;
       ready = c.in_ok-save_device-in-Ok-Some.ensures.ready;
       same = same.0 ∙ inv.same;
       kept = only_reads_both kept c.in_ok-save_device-in-Ok-Some.ensures.kept;
@@ -54,6 +55,7 @@ loop-id-preserved g c =
     record {
       saving = skipped_sound held id root old old tops ascends.0 ascends.1 next inv.saving inv.told outside;
       told = skipped_told held id root old old tops ascends.0 ascends.1 next inv.saving inv.told outside;
+      last = inv.last;
       ready = record { tops = c.in-Ok-Some.ensures.room ∙ inv.ready.tops; details = inv.ready.details };
       same = inv.same;
       kept = only_reads_both inv.kept c.in-Ok-Some.ensures.kept;
