@@ -27,7 +27,7 @@ use Rattle.pd_salvage_shapes.specs.declared.note.Note.{Note}
 use Rattle.pd_salvage_shapes.specs.declared.visiting.Visiting.{Visiting}
 use Rattle.pd_salvage_shapes.specs.Mets.{Met, met_of, met_of_visit, mets_below, way_left}
 use Rattle.pd_salvage_shapes.specs.Note.{IsNote, in_keys, met_in, met_of_note, noted, saved_at}
-use Rattle.pd_salvage_shapes.specs.Visiting.{AreMet, AreNotes, Grow, IsNoted, IsRaised, IsReady, Meets, MeetsAll, ReadsPart, StaysOnWay, TakesNote, TakesOwn, Tells, TellsAll, TellsLeaf, Visits, maps, mets_now, mets_of}
+use Rattle.pd_salvage_shapes.specs.Visiting.{AreMet, AreNotes, Grow, IsNoted, IsRaised, IsReady, KnowsInner, Meets, MeetsAll, ReadsPart, StaysOnWay, TakesNote, TakesOwn, Tells, TellsAll, TellsLeaf, Visits, is_undamaged_inner, maps, mets_now, mets_of}
 use Rattle.pd_salvage_shapes.proofs.VisitingLemmas.{all_weaker, at_pushed, last_at, maps_append, maps_met, mets_grow, pushed_at, raised_are, raised_same, took_mets, took_ready, took_rest}
 
 -- a note was added
@@ -192,12 +192,13 @@ any_if (Some x) each = each x
 
 -- what is met and left, where nothing changed but what was left
 module _ (held : Option (List (List ℕ))) (b : ℕ) (range : Range) (old : Visiting) (ready : IsReady old) where
-  pub passes : is_wanted old.s.meta_map.blocks b range ≡ false → way_number 8 old.way < way_number 8 old.way + child_weight (64 - old.way.stack.depth) → Meets held b range old old
-  passes out number = record {
+  pub passes : KnowsInner held old.way → is_wanted old.s.meta_map.blocks b range ≡ false → way_number 8 old.way < way_number 8 old.way + child_weight (64 - old.way.stack.depth) → Meets held b range old old
+  passes known out number = record {
     same = refl;
     ready = ready;
     grow = λ k n at. at;
     number = number;
+    knows = known;
     told = any_if held (λ image tells ascend.
         let none = none_wanted old.s image (64 - old.way.stack.depth) b range out in
         record { tells = tells; mets = rw none refl; ascend = rw none at ascend });
@@ -209,6 +210,7 @@ module _ (held : Option (List (List ℕ))) (b : ℕ) (range : Range) (old : Visi
     ready = rw stays.same (record { places = ready.places; notes = ready.notes; met = ready.met });
     grow = rw stays.same (λ k n at. at);
     number = stays.number;
+    knows = stays.knows;
     told = IfSome_then held stays.left (λ image left tells ascend. rw stays.same (record {
       tells = tells;
       mets = ap (λ (ms : List Met). mets_now old ++ ms) left;
@@ -300,7 +302,7 @@ module _ (b k : ℕ) (note : Note) (range raised : Range) (old new : Visiting) (
         same = takes.same.0;
         ready = took_ready k note old new ready at from takes;
         grow = rw takes.same.3 (λ n other is. is);
-        way = record { depth = rw takes.same.1 refl; left = rw takes.same.1 refl; number = rw takes.same.1 refl };
+        way = record { depth = rw takes.same.1 refl; left = rw takes.same.1 refl; number = rw takes.same.1 refl; knows = rw takes.same.1 (λ good image known. known) };
         told = any_if held (λ image tells j inside ascend. whole_told image tells j inside ascend all from takes);
       }
 
@@ -316,6 +318,7 @@ module _ (b k : ℕ) (note : Note) (range raised : Range) (old new : Visiting) (
           depth = rw own.same.1 reads.way.depth;
           left = rw own.same.1 reads.way.left;
           number = rw own.same.1 reads.way.number;
+          knows = rw own.same.1 reads.way.knows;
         };
         told = IfSome_then held reads.told (λ image is tells j inside ascend. part_told image tells j inside ascend part mid.way reads.way.left less reads.part is own);
       }
@@ -336,18 +339,19 @@ module _ (held : Option (List (List ℕ))) (b : ℕ) (range : Range) (old : Visi
   more_number : (n : ℕ) → n ≡ way_number 8 old.way → n < way_number 8 old.way + child_weight (64 - old.way.stack.depth)
   more_number n same = let some = unit_some (64 - old.way.stack.depth) in omega arith
 
-  pub meets_visited : (new : Visiting) → Visits held b range old new → Meets held b range old new
-  meets_visited new visits = record {
+  pub meets_visited : KnowsInner held old.way → (new : Visiting) → Visits held b range old new → Meets held b range old new
+  meets_visited known new visits = record {
     same = visits.same;
     ready = visits.ready;
     grow = visits.grow;
     number = more_number (way_number 8 new.way) visits.way.number;
+    knows = IfSome_then held known (visits.way.knows is_undamaged_inner);
     told = IfSome_then held visits.told (λ image told tells ascend.
         rw budget (told tells (63 - old.way.stack.depth) (wanted old.s.meta_map.blocks b range is_in).0 (rw budget at ascend)));
   }
 
-  pub meets_noted : (ready : IsReady old) (mid new : Visiting) → IsNoted held b old mid → Visits held b range mid new → Meets held b range old new
-  meets_noted ready mid new notes visits =
+  pub meets_noted : KnowsInner held old.way → (ready : IsReady old) (mid new : Visiting) → IsNoted held b old mid → Visits held b range mid new → Meets held b range old new
+  meets_noted known ready mid new notes visits =
       let s = notes.same.0 in
       let mets : mets_now mid ≡ mets_now old = rw notes.same.1 (mets_grow old.notes.items mid.notes.items old.met.items notes.grow ready.met.within) in
       record {
@@ -355,6 +359,7 @@ module _ (held : Option (List (List ℕ))) (b : ℕ) (range : Range) (old : Visi
         ready = visits.ready;
         grow = λ k n at. visits.grow k n (notes.grow k n at);
         number = more_number (way_number 8 new.way) (visits.way.number ∙ notes.way.number);
+        knows = IfSome_then held known (λ image known_is. visits.way.knows is_undamaged_inner image (notes.way.knows is_undamaged_inner image known_is));
         told =
             if_both held
             (λ image held_is to_mid told tells ascend.

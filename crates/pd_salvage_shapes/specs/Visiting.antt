@@ -9,6 +9,10 @@ use Rattle.pd_spells.specs.Lawful.{AreMappings}
 use Rattle.pd_tree.specs.Stack.{child_weight, last_place}
 use Rattle.pd_salvage.specs.declared.range.Range.{Range}
 use Rattle.pd_salvage.specs.Range.{is_in_range}
+use Rattle.pd_laid.specs.Salvage.{is_damaged}
+use Rattle.pd_kinds.specs.Node.{is_inner_node}
+use Rattle.pd_salvage.specs.declared.way.Way.{Way}
+use Rattle.pd_salvage.specs.Known.{KnowsNothing, KnowsPlaces}
 use Rattle.pd_salvage.specs.Steps.{PopsNode, SameWay}
 use Rattle.pd_salvage.specs.Way.{way_number}
 use Rattle.pd_salvage_shapes.specs.declared.note.Note.{Note}
@@ -94,11 +98,19 @@ pub record NotesTop (b : ℕ) (old new : Visiting) : Type 0 where
   pub named : 1 ≤ slice_index new.places.items b
   pub tells : (image : List (List ℕ)) → block_at image b ≡ (last_place old.way.stack).block.0 → TellsAll image old → TellsAll image new
 
+-- undamaged inner nodes are known on the way, where the device tells
+abbrev pub is_undamaged_inner : ℕ → List ℕ → Bool
+is_undamaged_inner b block = not (is_damaged 8 b block) && is_inner_node block
+
+abbrev pub KnowsInner : Option (List (List ℕ)) → Way → Type 0
+KnowsInner held way = IfSome held (λ image. KnowsPlaces is_undamaged_inner image way)
+
 -- a block was read: a sound inner node is the last one on the way
 pub record StaysOnWay (held : Option (List (List ℕ))) (b : ℕ) (range : Range) (old new : Visiting) : Type 0 where
   pub same : new ≡ record old { way = new.way }
   pub number : way_number 8 new.way < way_number 8 old.way + child_weight (64 - old.way.stack.depth)
   pub left : IfSome held (λ image. way_left old.s image new.way ≡ mets_below old.s image (64 - old.way.stack.depth) range b ++ way_left old.s image old.way)
+  pub knows : KnowsInner held new.way
 
 -- and any other is noted
 pub record IsNoted (held : Option (List (List ℕ))) (b : ℕ) (old new : Visiting) : Type 0 where
@@ -144,6 +156,7 @@ pub record Meets (held : Option (List (List ℕ))) (b : ℕ) (range : Range) (ol
   pub ready : IsReady new
   pub grow : Grow old.notes.items new.notes.items
   pub number : way_number 8 new.way < way_number 8 old.way + child_weight (64 - old.way.stack.depth)
+  pub knows : KnowsInner held new.way
   pub told : IfSome held (λ image. TellsAll image old
       → AreMappings old.s.data_map.blocks old.least (maps (mets_below old.s image (64 - old.way.stack.depth) range b ++ way_left old.s image old.way))
       → MeetsAll image (mets_now old ++ (mets_below old.s image (64 - old.way.stack.depth) range b ++ way_left old.s image old.way)) new)
@@ -164,6 +177,7 @@ pub record IsBegun (old new : Visiting) : Type 0 where
   pub same : (new.s ≡ old.s) × (new.places ≡ old.places) × (new.notes ≡ old.notes)
   pub ready : IsReady new
   pub depth : new.way.stack.depth ≡ 0
+  pub knows : KnowsNothing new.way
   pub none : (new.met.items ≡ []) × (new.least ≡ 0)
 
 -- all that was left was met

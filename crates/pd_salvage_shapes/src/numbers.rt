@@ -84,6 +84,18 @@ impl Numbers {
         Ok(())
     }
 
+    /// The same numbers once more, in as many ranges.
+    pub(crate) fn copy(&self, alloc: Global) -> Result<Numbers, AllocError>
+        ensures { IfOk result (λ copy. copy ≡ self.now) }
+    {
+        let mut done = Vec::with_capacity(alloc, self.done.len())?;
+        done.extend_from_slice(self.done.as_slice())?;
+        Ok(Numbers {
+            done,
+            last: self.last,
+        })
+    }
+
     /// How many numbers there are.
     pub(crate) fn count(&self) -> usize {
         count_of(self.done.as_slice(), self.last)

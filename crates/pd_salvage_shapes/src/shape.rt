@@ -23,9 +23,11 @@ use std::alloc::{AllocError, Global};
 
 /// What is saved of the pool with this superblock, with the leaves that its devices share.
 ///
-/// An inner node is read once for each device and range of keys that isn't empty. A leaf is read once, and once more for
-/// each range that cuts it. While this works, the runs of each are held once, and of each device the numbers of the leaves that it
-/// met: 8 bytes for those in a row. Room for the pieces is taken at once: 4 bytes for each leaf that a device met.
+/// An inner node is read at most once for each device and range of keys that isn't empty, and not again while it still
+/// stands in the place of its depth. A leaf is read once, and once more for each range that cuts it. For a device with the
+/// root of the device before it no block is read. While this works, the runs of each are held once, and of each device the
+/// numbers of the leaves that it met: 8 bytes for those in a row. Room for the pieces is taken at once: 4 bytes for each leaf
+/// that a device met.
 ///
 /// Fails with `Device` where a read failed, and with `Memory` where memory wasn't found.
 pub fn salvage_shape<D: Device>(

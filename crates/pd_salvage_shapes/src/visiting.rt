@@ -1,9 +1,7 @@
 //! The visits of a device's leaves: what each saves is noted, by its leaf or as a part.
 
-ghost use Rattle.std.specs.Prelude.{◌≡◌, ◌&&◌, false, not};
-ghost use Rattle.pd_kinds.specs.Node.{is_inner_node};
-ghost use Rattle.pd_laid.specs.Salvage.{is_damaged};
-ghost use Rattle.pd_salvage_shapes.specs.Visiting.{IsRaised};
+ghost use Rattle.std.specs.Prelude.{◌≡◌, false};
+ghost use Rattle.pd_salvage_shapes.specs.Visiting.{IsRaised, is_undamaged_inner};
 
 use crate::note::{Note, note_of};
 use crate::numbers::Numbers;
@@ -43,6 +41,20 @@ pub(crate) struct Seen {
     pub(crate) mapped: u64,
 }
 
+impl Seen {
+    ghost use Rattle.std.specs.Prelude.{◌≡◌, IfOk};
+
+    /// The same once more.
+    pub(crate) fn copy(&self, alloc: Global) -> Result<Seen, AllocError>
+        ensures { IfOk result (λ copy. copy ≡ self.now) }
+    {
+        Ok(Seen {
+            met: self.met.copy(alloc)?,
+            mapped: self.mapped,
+        })
+    }
+}
+
 impl Visiting {
     ghost use Rattle.std.specs.Prelude.{◌≡◌, ℕ, ◌+◌, ◌-◌, ◌^◌, ◌<◌, ◌≤◌, ◌∷◌, [], ◌++◌, List, Some, true, false, length, slice_index, IfOk, IfSome, OnOk};
     ghost use Rattle.std.specs.List.{slice_get};
@@ -56,7 +68,7 @@ impl Visiting {
     ghost use Rattle.pd_spells.specs.Lawful.{AreMappings};
     ghost use Rattle.pd_salvage_shapes.specs.declared.note.Note.{Note};
     ghost use Rattle.pd_salvage_shapes.specs.Note.{IsNote, noted};
-    ghost use Rattle.pd_salvage_shapes.specs.Visiting.{IsReady, Meets, NotesTop, ReadsNew, ReadsPart, TakesNote, TakesOwn, Visits};
+    ghost use Rattle.pd_salvage_shapes.specs.Visiting.{IsReady, KnowsInner, Meets, NotesTop, ReadsNew, ReadsPart, TakesNote, TakesOwn, Visits};
 
     /// One above the number of the note of the block's leaf, or 0.
     fn number(&self, b: u64) -> u32
@@ -127,7 +139,8 @@ impl Visiting {
         Ok(())
     }
 
-    /// Reads a block that wasn't noted: a sound inner node stays on the way, which it answers, and any other is noted.
+    /// Takes a block that wasn't noted: a sound inner node stays on the way, which it answers, and any other is noted. It is
+    /// read, unless it is known that it stands in the next place.
     fn read_new<D: Device>(
         &mut self,
         dev: &mut D,
@@ -140,15 +153,20 @@ impl Visiting {
         requires room { self.old.way.stack.depth < 64 }
         requires wanted { is_wanted self.old.s.meta_map.blocks b range ≡ true }
         requires unread { slice_index self.old.places.items b ≡ 0 }
+        requires knows { KnowsInner (D.state dev.old).held self.old.way }
         ensures reads { IfOk result (λ stays. ReadsNew (D.state dev.old).held stays b range self.old self.new) }
         ensures kept { OnlyReads (D.state dev.old) (D.state dev.new) }
         ensures faults { CountsSalvage result (D.state dev.old).faults (D.state dev.new).faults }
     {
+        if self.way.again::<BlockTime>(b, range) {
+            return Ok(true);
+        }
         match self.way.push::<BlockTime, D>(dev, b, range) {
             Ok(()) => {}
             Err(_) => return Err(SalvageFault::Device),
         }
         if is_sound_inner(self.way.top(), b) {
+            self.way.keep(b);
             return Ok(true);
         }
         match self.note_top(b) {
@@ -222,6 +240,7 @@ impl Visiting {
         requires within { self.old.s.meta_map.blocks ≤ (D.state dev.old).blocks }
         requires ready { IsReady self.old }
         requires room { self.old.way.stack.depth < 64 }
+        requires knows { KnowsInner (D.state dev.old).held self.old.way }
         ensures meets { OnOk result (Meets (D.state dev.old).held b range self.old self.new) }
         ensures kept { OnlyReads (D.state dev.old) (D.state dev.new) }
         ensures faults { CountsSalvage result (D.state dev.old).faults (D.state dev.new).faults }
@@ -243,7 +262,7 @@ impl Visiting {
     ghost use Rattle.std.specs.Prelude.{◌≡◌, ◌^◌, ◌<◌, ◌≤◌, IfOk, OnOk};
     ghost use Rattle.pd_image.specs.Device.{IsAttached, OnlyReads};
     ghost use Rattle.pd_salvage.specs.Faults.{CountsSalvage};
-    ghost use Rattle.pd_salvage_shapes.specs.Visiting.{GoesOn, HasTable, IsBegun, IsReady, IsStarted, MeetsTree, SeesDevice};
+    ghost use Rattle.pd_salvage_shapes.specs.Visiting.{GoesOn, HasTable, IsBegun, IsReady, IsStarted, KnowsInner, MeetsTree, SeesDevice};
 
     /// No leaf was noted, in a pool with this superblock.
     pub(crate) fn start(alloc: Global, s: &ThinSuper) -> Result<Visiting, AllocError>
@@ -265,7 +284,7 @@ impl Visiting {
         })
     }
 
-    /// Goes before the first block of a device.
+    /// Goes before the first block of a device. Nothing is known of the places on the way.
     fn begin(&mut self)
         requires { HasTable self.old }
         ensures { IsBegun self.old self.new }
@@ -281,6 +300,7 @@ impl Visiting {
         requires attached { IsAttached (D.state dev.old) }
         requires within { self.old.s.meta_map.blocks ≤ (D.state dev.old).blocks }
         requires ready { IsReady self.old }
+        requires knows { KnowsInner (D.state dev.old).held self.old.way }
         ensures met { OnOk result (GoesOn (D.state dev.old).held self.old self.new) }
         ensures kept { OnlyReads (D.state dev.old) (D.state dev.new) }
         ensures faults { CountsSalvage result (D.state dev.old).faults (D.state dev.new).faults }
@@ -342,7 +362,7 @@ impl Visiting {
 
 /// Whether the block is a sound inner node in this place.
 fn is_sound_inner(block: &Block, place: u64) -> bool
-    ensures { result ≡ (not (is_damaged 8 place block.now.0) && is_inner_node block.now.0) }
+    ensures { result ≡ is_undamaged_inner place block.now.0 }
 {
     is_sound::<BlockTime>(block, place) & is_inner(block)
 }

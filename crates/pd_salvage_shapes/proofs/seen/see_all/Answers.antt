@@ -1,25 +1,28 @@
-use Rattle.std.proofs.Common.{get_or, refl, subst, ◌∙◌, arith}
+use Rattle.std.proofs.Common.{refl, subst, ◌∙◌, arith}
+use Rattle.std.proofs.lemmas.List.{length-take-le}
 use Rattle.pd_image.proofs.ReadLemmas.{only_reads_both}
-use Rattle.pd_salvage_shapes.specs.Tops.{no_top}
-use Rattle.pd_salvage_shapes.specs.Visiting.{SeesDevice}
-use Rattle.pd_salvage_shapes.proofs.SeenLemmas.{sees_more, sees_none}
+use Rattle.pd_salvage_shapes.specs.Seen.{SeesNext}
+use Rattle.pd_salvage_shapes.proofs.SeenLemmas.{sees_none}
 use Rattle.pd_salvage_shapes.proofs.seen.see_all.Goals as goal
 
-pub loop-top-init : goal.loop-top-init
-loop-top-init g c = record {
+pub loop-i-init : goal.loop-i-init
+loop-i-init g c = record {
   sees = rw c.new-seen.ensures.items (sees_none (g.D.Device.state c.args.dev.now).held c.args.visiting.now c.requires.table);
   kept = record { held = refl; access = refl; path = refl; blocks = refl; history = refl };
   faults = refl;
 }
 
-pub loop-top-preserved : goal.loop-top-preserved
-loop-top-preserved g c =
-    let inv = c.loop-top.invariant in
-    let held = (g.D.Device.state c.args.dev.now).held in
-    let top = get_or c.args.tops.now c.loop-top.top-index no_top in
-    let device = subst (λ o. SeesDevice o top.root c.in_ok-one.one c.loop-top.visiting c.see.new.self) inv.kept.held c.in_ok-one.ensures.sees in
+pub see_next-requires-clause-number : goal.see_next-requires-clause-number
+see_next-requires-clause-number g c = c.loop-i.invariant.sees.number ∙ length-take-le c.loop-i.i c.args.tops.now (omega arith)
+
+pub loop-i-preserved : goal.loop-i-preserved
+loop-i-preserved g c =
+    let inv = c.loop-i.invariant in
+    let next =
+    subst (λ o. SeesNext o c.args.tops.now c.loop-i.i c.loop-i.seen.items c.see_next.new.seen.items c.loop-i.visiting c.see_next.new.visiting) inv.kept.held
+    c.in_ok-see_next.ensures.sees in
     record {
-      sees = rw c.in-Ok.ensures.items (sees_more held c.args.tops.now c.loop-top.top-index c.loop-top.seen.items c.args.visiting.now c.loop-top.visiting c.see.new.self top c.in_ok-one.one (omega arith) no_top refl inv.sees device);
-      kept = only_reads_both inv.kept c.in_ok-one.ensures.kept;
-      faults = c.in_ok-one.ensures.faults ∙ inv.faults;
+      sees = next c.args.visiting.now inv.sees;
+      kept = only_reads_both inv.kept c.in_ok-see_next.ensures.kept;
+      faults = c.in_ok-see_next.ensures.faults ∙ inv.faults;
     }

@@ -4,9 +4,9 @@ use Rattle.pd_salvage_shapes.specs.Seen.{SeesAll}
 use Rattle.pd_salvage_shapes.proofs.seen.see_all.Given as goal
 
 -- the devices before this one were seen
-abbrev pub invariant-loop-top : goal.invariant-loop-top
-invariant-loop-top g l = record {
-  sees : SeesAll (g.D.Device.state l.initial.dev).held (take l.top-index l.tops) l.seen.items l.initial.visiting l.visiting;
+abbrev pub invariant-loop-i : goal.invariant-loop-i
+invariant-loop-i g l = record {
+  sees : SeesAll (g.D.Device.state l.initial.dev).held (take l.i l.tops) l.seen.items l.initial.visiting l.visiting;
   kept : OnlyReads (g.D.Device.state l.initial.dev) (g.D.Device.state l.dev);
   faults : (g.D.Device.state l.dev).faults ≡ (g.D.Device.state l.initial.dev).faults;
 }

@@ -11,6 +11,7 @@ returns c =
         notes = c.requires.notes;
         met = rw none (record { within = tt; lawful = λ rest are. are; counted = refl });
       };
-      depth = c.clear.ensures;
+      depth = c.clear.ensures.depth;
+      knows = c.clear.ensures.knows;
       none = (none, refl);
     }

@@ -4,7 +4,7 @@ use Rattle.std.proofs.lemmas.Option.{IfSome_then}
 use Rattle.pd_image.proofs.ReadLemmas.{only_reads_both}
 use Rattle.pd_salvage.specs.Way.{told}
 use Rattle.pd_salvage_shapes.specs.Mets.{mets_below}
-use Rattle.pd_salvage_shapes.specs.Visiting.{Meets}
+use Rattle.pd_salvage_shapes.specs.Visiting.{Meets, is_undamaged_inner}
 use Rattle.pd_salvage_shapes.proofs.TreeLemmas.{down_all, ended_all, passed_all}
 use Rattle.pd_salvage_shapes.proofs.visiting.Visiting.go_on.Goals as goal
 
@@ -17,7 +17,8 @@ steps-preserved-in-Passed g c =
       same = inv.same;
       grow = inv.grow;
       told = IfSome_then (g.D.Device.state c.args.dev.now).held inv.told (λ image is all start.
-          passed_all image all old c.step.new.self (ap (flat_map (told (λ e. []) (mets_below old.s image))) c.in-Passed.ensures.left) (is all start));
+          passed_all image all old c.step.new.self (ap (flat_map (told (λ e. []) (mets_below old.s image))) c.in-Passed.ensures.steps.left) (is all start));
+      knows = IfSome_then (g.D.Device.state c.args.dev.now).held inv.knows (c.in-Passed.ensures.knows is_undamaged_inner);
       kept = inv.kept;
       faults = inv.faults;
     }
@@ -36,7 +37,8 @@ steps-preserved-in-Continue-1 g c =
       ready = meets.ready;
       same = meets.same ∙ inv.same;
       grow = λ k n at. meets.grow k n (inv.grow k n at);
-      told = down_all held b range c.args.self.now old way new c.in-Child.ensures (subst (λ o. Meets o b range (record old { way = way }) new) inv.kept.held meets) inv.told;
+      told = down_all held b range c.args.self.now old way new c.in-Child.ensures.steps (subst (λ o. Meets o b range (record old { way = way }) new) inv.kept.held meets) inv.told;
+      knows = rw inv.kept.held at meets.knows;
       kept = only_reads_both inv.kept c.in_ok-meet-in-Child.ensures.kept;
       faults = c.in_ok-meet-in-Child.ensures.faults ∙ inv.faults;
     }
@@ -50,7 +52,8 @@ steps-preserved g c =
       same = inv.same;
       grow = inv.grow;
       told = IfSome_then (g.D.Device.state c.args.dev.now).held inv.told (λ image is all start.
-          passed_all image all old c.step.new.self (ap (flat_map (told (λ e. []) (mets_below old.s image))) c.in-Entry.ensures.left) (is all start));
+          passed_all image all old c.step.new.self (ap (flat_map (told (λ e. []) (mets_below old.s image))) c.in-Entry.ensures.steps.left) (is all start));
+      knows = IfSome_then (g.D.Device.state c.args.dev.now).held inv.knows (c.in-Entry.ensures.knows is_undamaged_inner);
       kept = inv.kept;
       faults = inv.faults;
     }
@@ -64,3 +67,8 @@ returns-clause-met g c =
       grow = inv.grow;
       told = IfSome_then (g.D.Device.state c.args.dev.now).held inv.told (λ image is all start. ended_all image all c.steps.self (c.steps-test.ensures.0 refl) (is all start));
     }
+
+pub meet-requires-clause-knows : goal.meet-requires-clause-knows
+meet-requires-clause-knows g c =
+    let inv = c.steps.invariant in
+    rw inv.kept.held (IfSome_then (g.D.Device.state c.args.dev.now).held inv.knows (c.in-Child.ensures.knows is_undamaged_inner))
