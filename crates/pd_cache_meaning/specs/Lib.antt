@@ -2,3 +2,10 @@ pub mod Left
 pub mod SideArrays
 pub mod Rows
 pub mod Given
+pub mod Lengths
+pub mod BlockWords
+pub mod SkippedWords
+pub mod SkippedBits
+pub mod MapWords
+pub mod Sides
+pub mod RowsAhead
