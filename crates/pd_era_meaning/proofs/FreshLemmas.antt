@@ -1,5 +1,5 @@
 -- Eras that are raised but for the blocks whose eras are as high.
-use Rattle.std.proofs.Common.{◌≡◌, inl, inr, ℕ, zero, suc, ◌+◌, ◌-◌, ◌*◌, ◌/◌, ◌%◌, ◌<◌, ◌≤◌, Bool, true, false, not, ◌&&◌, ◌||◌, nat_eq, nat_lt, max, List, length, get_or, set, refl, sym, ◌∙◌, arith, eq-eqb}
+use Rattle.std.proofs.Common.{◌≡◌, inl, inr, ℕ, zero, suc, ◌+◌, ◌-◌, ◌*◌, ◌/◌, ◌%◌, ◌<◌, ◌≤◌, Bool, true, false, not, ◌&&◌, ◌||◌, nat_eq, nat_lt, cond, max, List, length, get_or, set, refl, sym, ◌∙◌, arith, eq-eqb}
 use Rattle.std.specs.Int.{bit_at}
 use Rattle.std.specs.Int.Bits.{bit_or, bit_xor}
 use Rattle.std.specs.List.{range_with_len}
@@ -7,7 +7,8 @@ use Rattle.std.proofs.lemmas.Bool.{cases_eq, cases_lt, lt-ltb, le-ltb, ne_eqb}
 use Rattle.std.proofs.lemmas.List.{get_or_past, get_or-set_other, get_or-set_same, length-map}
 use Rattle.std.proofs.lemmas.List.FromFn.{get_or-map-range_with_len, length-range_with_len}
 use Rattle.std.proofs.lemmas.Nat.Bits.{bit_at-lt, bit_at-zero, bit_at_or, bit_at_xor}
-use Rattle.pd_kinds.specs.Array.{word_at, word_count}
+use Rattle.std.proofs.lemmas.Bool.Decides.{nat_tests}
+use Rattle.pd_kinds.specs.Array.{array_entries, array_max, array_value_size, is_array_shape_bad, word_at, word_count}
 use Rattle.pd_kinds.specs.Meaning.{is_bit_set}
 use Rattle.pd_tree.specs.Words.{words_from}
 use Rattle.pd_era_meaning.specs.Raising.{AreAtLeast, Raises, holds_from, holds_in_word, raised as raised_by}
@@ -36,17 +37,6 @@ raised_high era f old new raised = record {
       let now = rw is at (raised.each b there) in
       omega arith;
 }
-
--- and where they are as high nothing is raised
-pub nothing_raised : (era : ℕ) (f : ℕ → Bool) (eras : List ℕ) → AreAtLeast era f eras → Raises era f eras eras
-nothing_raised era f eras high = record {
-  number = refl;
-  each = λ b within. sym (at (f b) (get_or eras b 0) (high.each b within));
-}
-  where
-    at : (held : Bool) (x : ℕ) → (held ≡ true → era ≤ x) → raised_by era held x ≡ x
-    at true x low = raised_low era x true (low refl)
-    at false x low = omega arith
 
 -- the bits of a word that others don't have
 fresh_table : (a b : ℕ) → a < 2 → b < 2 → nat_eq ((max a b + b) % 2) 1 ≡ (nat_eq a 1 && not (nat_eq b 1))
@@ -181,14 +171,41 @@ upto_all end first words i b all = elim (cases_lt (b / 64) (first + i)) [
       rw (le-ltb (b / 64) first (omega arith), none, bit_at-zero (b % 64)) (none_past (nat_lt (b / 64) (first + i)) (nat_lt b end))
 ]
 
--- the words of a block
-pub length-words : (size : ℕ) (block : List ℕ) → length (words_from size block 0) ≡ word_count size block
+-- the words of a block, from one of them on
+pub length-words : (size : ℕ) (block : List ℕ) (from : ℕ) → length (words_from size block from) ≡ word_count size block - from
 unfolding words_from
-length-words size block =
-    let n = word_count size block - 0 in
-    let same : n ≡ word_count size block = omega arith in
-    length-map {A = ℕ} {B = ℕ} (range_with_len 0 n) (word_at size block) ∙ (length-range_with_len 0 n ∙ same)
+length-words size block from =
+    let n = word_count size block - from in
+    length-map {A = ℕ} {B = ℕ} (range_with_len from n) (word_at size block) ∙ length-range_with_len from n
 
-pub word_in : (size : ℕ) (block : List ℕ) (i : ℕ) → i < word_count size block → get_or (words_from size block 0) i 0 ≡ word_at size block i
+pub word_in : (size : ℕ) (block : List ℕ) (from i : ℕ) → i < word_count size block - from → get_or (words_from size block from) i 0 ≡ word_at size block (from + i)
 unfolding words_from
-word_in size block i within = get_or-map-range_with_len (word_at size block) 0 (word_count size block - 0) i i 0 (omega arith) (omega arith)
+word_in size block from i within = get_or-map-range_with_len (word_at size block) from (word_count size block - from) i (from + i) 0 within (omega arith)
+
+-- an array block has at most 509 words of eight bytes
+few_plain : (size wanted max most entries : ℕ) → (not (nat_eq size wanted) || (not (nat_eq max most) || nat_lt max entries)) ≡ false → most ≤ 509 → entries ≤ 509
+few_plain size wanted max most entries sound few = grind (arith, nat_tests)
+
+few_if : (bad : Bool) (count : ℕ) → (bad ≡ false → count ≤ 509) → cond bad 0 count ≤ 509
+few_if true count few = omega arith
+few_if false count few = few refl
+
+pub few_words : (block : List ℕ) → word_count 8 block ≤ 509
+unfolding word_count is_array_shape_bad
+few_words block = few_if (is_array_shape_bad 8 block) (array_entries block) (λ sound. few_plain (array_value_size block) 8 (array_max block) 509 (array_entries block) sound (omega arith))
+
+-- what is so of an era is so of an earlier one
+pub least_lower : (high least : ℕ) (f : ℕ → Bool) (eras : List ℕ) → least ≤ high → AreAtLeast high f eras → AreAtLeast least f eras
+least_lower high least f eras less low = record { each = λ b within is. let here = low.each b within is in omega arith }
+
+-- no bit is set
+pub none_taken : (era : ℕ) (taken eras : List ℕ) → ((i : ℕ) → i < length taken → get_or taken i 0 ≡ 0) → AreAtLeast era (is_bit_set taken) eras
+none_taken era taken eras none = record {
+  each = λ b within is. absurd (impossible (b % 64) (get_or taken (b / 64) 0) (zero_at (b / 64)) is);
+}
+  where
+    zero_at : (i : ℕ) → get_or taken i 0 ≡ 0
+    zero_at i = elim (cases_lt i (length taken)) [ inl within ↦ none i within | inr past ↦ get_or_past taken i 0 past ]
+
+    impossible : (k word : ℕ) → word ≡ 0 → nat_eq (bit_at word k) 1 ≡ true → ⊥
+    impossible k word zeroed is = let wrong = rw (zeroed, bit_at-zero k) at is in cc

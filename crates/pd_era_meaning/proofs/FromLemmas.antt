@@ -1,11 +1,10 @@
--- Eras that are raised by words from one number on, some after others.
-use Rattle.std.proofs.Common.{◌≡◌, inl, inr, ℕ, ◌+◌, ◌-◌, ◌*◌, ◌/◌, ◌%◌, ◌<◌, ◌≤◌, Bool, true, false, not, ◌&&◌, ◌||◌, nat_eq, nat_lt, max, List, [], ◌++◌, length, length-append, get_or, refl, sym, ap, ◌∙◌, arith}
+-- Which blocks words hold, the first of which has a number.
+use Rattle.std.proofs.Common.{◌≡◌, inl, inr, ℕ, ◌+◌, ◌-◌, ◌*◌, ◌/◌, ◌%◌, ◌<◌, ◌≤◌, Bool, true, false, not, ◌&&◌, ◌||◌, nat_eq, nat_lt, List, [], ◌++◌, length, get_or, refl, ap, ◌∙◌, arith}
 use Rattle.std.specs.Int.{bit_at}
-use Rattle.std.proofs.lemmas.Bool.{cases_lt, lt-ltb, le-ltb}
+use Rattle.std.proofs.lemmas.Bool.{cases_lt, lt-ltb, le-ltb, ltb-true}
 use Rattle.std.proofs.lemmas.List.{get_or_past, get_or_append_left, get_or-append_right}
 use Rattle.std.proofs.lemmas.Nat.Bits.{bit_at-zero}
-use Rattle.pd_era_meaning.specs.Raising.{Raises, RaisesFrom, holds, holds_from, raised as raised_by}
-use Rattle.pd_era_meaning.proofs.RaiseLemmas.{twice}
+use Rattle.pd_era_meaning.specs.Raising.{holds, holds_from}
 
 -- whether word q of those from one number on has a bit
 abbrev has_bit : ℕ → List ℕ → ℕ → ℕ → Bool
@@ -62,55 +61,34 @@ from_past end first words b past = elim (cases_lt b end) [
 pub from_first : (end : ℕ) (words : List ℕ) (b : ℕ) → holds_from end 0 words b ≡ holds end words b
 from_first end words b = let same : b / 64 - 0 ≡ b / 64 = omega arith in rw (le-ltb (b / 64) 0 (omega arith), same) refl
 
--- Once the words that are left raised the eras, all words will have raised those at the start
-pub record WillRaise (era end : ℕ) (whole start left : List ℕ) (first at : ℕ) (now : List ℕ) : Type 0 where
-  pub number : length now ≡ length start
-  pub place : at + length left ≡ first + length whole
-  pub each : (b : ℕ) → b < length start → raised_by era (holds_from end at left b) (get_or now b 0) ≡ raised_by era (holds_from end first whole b) (get_or start b 0)
+-- the bits that count, up to their number and to the last block
+pub same_end : (bits end number : ℕ) (words : List ℕ) (b : ℕ) → end ≤ bits → (b < bits → b < number → b < end) → b < number → holds end words b ≡ holds bits words b
+same_end bits end number words b fewer most inside = elim (cases_lt b bits) [
+  | inl below ↦ rw (lt-ltb b bits below, lt-ltb b end (most below inside)) refl
+  | inr past ↦ rw (le-ltb b bits past, le-ltb b end (omega arith)) refl
+]
 
-pub will_begin : (era end : ℕ) (whole start : List ℕ) (first : ℕ) → WillRaise era end whole start whole first first start
-will_begin era end whole start first = record { number = refl; place = refl; each = λ b within. refl }
+-- blocks before an end stand before a later one
+fewer : (a b s : Bool) → (a ≡ true → b ≡ true) → (a && s) ≡ true → (b && s) ≡ true
+fewer true b s more is = rw (more refl) is
+fewer false b s more is = cc
 
--- the first ones of those that are left did
-pub will_go_on : (era end : ℕ) (whole start left words rest : List ℕ) (first at next : ℕ) (now new : List ℕ) → left ≡ words ++ rest → RaisesFrom era end at words next now new
-    → WillRaise era end whole start left first at now → WillRaise era end whole start rest first next new
-will_go_on era end whole start left words rest first at next now new split raised will = record {
-  number = raised.raises.number ∙ will.number;
-  place = let both = length-append words rest in let before = will.place in let is = raised.after in let lengths = ap length split in omega arith;
-  each = λ b within.
-      let there : b < length now = let same = will.number in omega arith in
-      let x = get_or now b 0 in
-      ap (λ (n : ℕ). raised_by era (holds_from end n rest b) (get_or new b 0)) raised.after
-      ∙ (ap (raised_by era (holds_from end (at + length words) rest b)) (raised.raises.each b there)
-      ∙ (twice era x (holds_from end at words b) (holds_from end (at + length words) rest b)
-      ∙ (ap (λ (t : Bool). raised_by era t x) (sym (from_append end at words rest b) ∙ ap (λ (ws : List ℕ). holds_from end at ws b) (sym split))
-      ∙ will.each b within)));
-}
+pub from_later : (end later first : ℕ) (words : List ℕ) (b : ℕ) → end ≤ later → holds_from end first words b ≡ true → holds_from later first words b ≡ true
+from_later end later first words b less is =
+    fewer (nat_lt b end) (nat_lt b later) (has_bit first words (b / 64) (b % 64)) (λ inside. lt-ltb b later (let below = ltb-true b end inside in omega arith)) is
 
--- none is left, or none that counts
-pub will_end : (era end : ℕ) (whole start : List ℕ) (first at : ℕ) (now : List ℕ) → WillRaise era end whole start [] first at now → RaisesFrom era end first whole at start now
-will_end era end whole start first at now will = record {
-  raises = record {
-    number = will.number;
-    each = λ b within.
-        let none = ap (λ (t : Bool). raised_by era t (get_or now b 0)) (from_nothing end at b) in
-        let here = will.each b within in
-        let same : get_or now b 0 ≡ max (get_or now b 0) 0 = omega arith in
-        same ∙ (sym none ∙ here);
-  };
-  after = let place = will.place in omega arith;
-}
-
-pub will_stop : (era end : ℕ) (whole start left : List ℕ) (first at : ℕ) (now : List ℕ) → end ≤ 64 * at → WillRaise era end whole start left first at now → Raises era (holds_from end first whole) start now
-will_stop era end whole start left first at now past will = record {
-  number = will.number;
-  each = λ b within.
-      let none = ap (λ (t : Bool). raised_by era t (get_or now b 0)) (from_past end at left b past) in
-      let here = will.each b within in
-      let same : get_or now b 0 ≡ max (get_or now b 0) 0 = omega arith in
-      same ∙ (sym none ∙ here);
-}
-
--- no words raise nothing
-pub raises_nothing : (era end first : ℕ) (eras : List ℕ) → RaisesFrom era end first [] first eras eras
-raises_nothing era end first eras = will_end era end [] eras first first eras (will_begin era end [] eras first)
+-- where all words stand before an end, their blocks count whatever later end is asked for
+pub reaches : (end later first : ℕ) (words : List ℕ) (b : ℕ) → 64 * (first + length words) ≤ end → holds_from later first words b ≡ true → holds_from end first words b ≡ true
+reaches end later first words b whole is = elim (cases_lt (b / 64) (first + length words)) [
+  | inl inside ↦
+      let below : b < end = omega arith in
+      fewer (nat_lt b later) (nat_lt b end) (has_bit first words (b / 64) (b % 64)) (λ _. lt-ltb b end below) is
+  | inr past ↦
+      let none : get_or words (b / 64 - first) 0 ≡ 0 = get_or_past words (b / 64 - first) 0 (omega arith) in
+      absurd (never (nat_lt b later) (not (nat_lt (b / 64) first)) (rw (none, bit_at-zero (b % 64)) at is))
+]
+  where
+    never : (s t : Bool) → (s && (t && false)) ≡ true → ⊥
+    never true true is = cc
+    never true false is = cc
+    never false t is = cc

@@ -1,6 +1,6 @@
 -- Facts over what a device tells, and under a result.
 use Rattle.std.proofs.Common.{◌≡◌, Option, Some, None, IfSome, Result, Ok, Err, subst}
-use Rattle.std.specs.Result.{IfOk, OnOk}
+use Rattle.std.specs.Result.{OnOk}
 
 pub if_maps : {X : Type 0} → (o : Option X) (P Q : X → Type 0) → ((x : X) → P x → Q x) → IfSome o P → IfSome o Q
 if_maps None P Q f p = tt
@@ -18,11 +18,6 @@ if_then {X} o later P Q R same f p q = both o P Q R f p (subst (λ t. IfSome t Q
 pub ok_maps : {T E : Type 0} → (result : Result T E) (P Q : Type 0) → (P → Q) → OnOk result P → OnOk result Q
 ok_maps (Ok x) P Q f p = f p
 ok_maps (Err e) P Q f p = tt
-
--- two facts of one value
-pub ok_both : {T E : Type 0} → (result : Result T E) (P : T → Type 0) (Q : Type 0) (R : T → Type 0) → ((x : T) → P x → Q → R x) → IfOk result P → OnOk result Q → IfOk result R
-ok_both (Ok x) P Q R f p q = f x p q
-ok_both (Err e) P Q R f p q = tt
 
 -- three facts over what is told
 pub if_three : {X : Type 0} → (o : Option X) (P Q R S : X → Type 0) → ((x : X) → P x → Q x → R x → S x) → IfSome o P → IfSome o Q → IfSome o R → IfSome o S

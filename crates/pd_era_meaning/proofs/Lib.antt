@@ -3,7 +3,11 @@ pub mod TakeLemmas
 pub mod RaiseLemmas
 pub mod FreshLemmas
 pub mod FromLemmas
+pub mod RowLemmas
+pub mod LevelLemmas
 pub mod KnownLemmas
-pub mod WalkLemmas
+pub mod DescentLemmas
 pub mod SetLemmas
+pub mod PartLemmas
+pub mod LeftLemmas
 pub mod SoundEra

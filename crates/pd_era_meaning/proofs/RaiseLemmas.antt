@@ -1,8 +1,8 @@
 -- Eras that are raised bit after bit, and word after word.
-use Rattle.std.proofs.Common.{◌≡◌, inl, inr, ℕ, ◌+◌, ◌*◌, ◌/◌, ◌%◌, ◌<◌, ◌≤◌, Bool, true, false, cond, ◌&&◌, ◌||◌, nat_eq, nat_lt, max, List, length, get_or, refl, ap, ◌∙◌, arith, eq-eqb}
+use Rattle.std.proofs.Common.{◌≡◌, inl, inr, ℕ, ◌+◌, ◌/◌, ◌%◌, ◌<◌, Bool, true, false, cond, ◌&&◌, ◌||◌, nat_eq, nat_lt, max, List, length, get_or, refl, ap, ◌∙◌, arith}
 use Rattle.std.specs.Int.{bit_at}
-use Rattle.std.proofs.lemmas.Bool.{cases_eq, cases_lt, lt-ltb, le-ltb, ne_eqb}
-use Rattle.pd_era_meaning.specs.Raising.{Raises, holds, holds_before, holds_in_word, raised as raised_by}
+use Rattle.std.proofs.lemmas.Bool.{cases_lt, lt-ltb, le-ltb}
+use Rattle.pd_era_meaning.specs.Raising.{Raises, raised as raised_by}
 
 -- tests that say the same of each block
 pub raises_same : (era : ℕ) (f g : ℕ → Bool) (old new : List ℕ) → ((b : ℕ) → b < length old → f b ≡ g b) → Raises era f old new → Raises era g old new
@@ -49,45 +49,6 @@ below_next n i other = elim (cases_lt n i) [
 ]
 
 -- one word more
-this_word : (below set : Bool) → ((false && (below && set)) || (below && (true && set))) ≡ (true && (below && set))
-this_word true true = refl
-this_word true false = refl
-this_word false set = refl
-
 pub other_word : (before later is : Bool) (held below any : Bool) → is ≡ false → before ≡ later → ((before && held) || (below && (is && any))) ≡ (later && held)
 other_word before later is held true any other same = rw (other, same) (or_none (later && held))
 other_word before later is held false any other same = rw same (or_none (later && held))
-
-pub word_more : (end : ℕ) (words : List ℕ) (i word b : ℕ) → word ≡ get_or words i 0 → (holds_before end words i b || holds_in_word end i word b) ≡ holds_before end words (i + 1) b
-word_more end words i word b is = elim (cases_eq (b / 64) i) [
-  | inl here ↦
-      rw (here, is, eq-eqb i i refl, le-ltb i i (omega arith), lt-ltb i (i + 1) (omega arith))
-      (this_word (nat_lt b end) (nat_eq (bit_at (get_or words i 0) (b % 64)) 1))
-  | inr other ↦
-      other_word (nat_lt (b / 64) i) (nat_lt (b / 64) (i + 1)) (nat_eq (b / 64) i) (holds end words b) (nat_lt b end) (nat_eq (bit_at word (b % 64)) 1)
-      (ne_eqb (b / 64) i other) (below_next (b / 64) i other)
-]
-
-pub no_words : (end : ℕ) (words : List ℕ) (b : ℕ) → holds_before end words 0 b ≡ false
-no_words end words b = rw (le-ltb (b / 64) 0 (omega arith)) refl
-
--- all words up to the end
-within : (end : ℕ) (words : List ℕ) (n b : ℕ) → (b < end → b / 64 < n) → holds_before end words n b ≡ holds end words b
-within end words n b all = elim (cases_lt b end) [
-  | inl below ↦ rw (lt-ltb (b / 64) n (all below)) refl
-  | inr past ↦ rw (le-ltb b end past) (none (nat_lt (b / 64) n))
-]
-  where
-    none : (t : Bool) → (t && false) ≡ false
-    none true = refl
-    none false = refl
-
-pub all_words : (end : ℕ) (words : List ℕ) (n b : ℕ) → end ≤ 64 * n → holds_before end words n b ≡ holds end words b
-all_words end words n b all = within end words n b (λ below. omega arith)
-
--- the bits that count, up to their number and to the last block
-pub same_end : (bits end number : ℕ) (words : List ℕ) (b : ℕ) → end ≤ bits → (b < bits → b < number → b < end) → b < number → holds end words b ≡ holds bits words b
-same_end bits end number words b fewer most inside = elim (cases_lt b bits) [
-  | inl below ↦ rw (lt-ltb b bits below, lt-ltb b end (most below inside)) refl
-  | inr past ↦ rw (le-ltb b bits past, le-ltb b end (omega arith)) refl
-]

@@ -38,11 +38,6 @@ set_era image b item = if holds item.1.bits (words_below 8 image item.1.root) b 
 abbrev pub with_sets : List (List ℕ) → List (ℕ × Writeset) → ℕ → ℕ → ℕ
 with_sets image items b x = fold max x (map (set_era image b) items)
 
--- all of these writesets raised the eras
-pub record HasSets (image : List (List ℕ)) (items : List (ℕ × Writeset)) (old new : List ℕ) : Type 0 where
-  pub number : length new ≡ length old
-  pub each : (b : ℕ) → b < length old → slice_index new b ≡ with_sets image items b (slice_index old b)
-
 -- whether the current writeset holds a block, where there is one
 abbrev pub is_current : List (List ℕ) → EraFields → ℕ → Bool
 is_current image fields b = not (fields.current_root == 0) && holds fields.current_bits (words_below 8 image fields.current_root) b

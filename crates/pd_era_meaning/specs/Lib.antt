@@ -1,3 +1,7 @@
 pub mod Raising
 pub mod Eras
-pub mod Walk
+pub mod Rows
+pub mod Levels
+pub mod Notes
+pub mod Descent
+pub mod Parts

@@ -1,5 +1,5 @@
 -- Eras that are raised where a writeset holds their blocks.
-use Rattle.std.specs.Prelude.{◌≡◌, ℕ, ◌+◌, ◌-◌, ◌/◌, ◌%◌, ◌<◌, ◌≤◌, ◌==◌, ◌&&◌, not, nat_lt, max, Bool, true, if◌then◌else◌, List, length, slice_index}
+use Rattle.std.specs.Prelude.{◌≡◌, ℕ, ◌-◌, ◌/◌, ◌%◌, ◌<◌, ◌≤◌, ◌==◌, ◌&&◌, not, nat_lt, max, Bool, true, if◌then◌else◌, List, length, slice_index}
 use Rattle.std.specs.Int.{bit_at}
 use Rattle.pd_kinds.specs.Meaning.{is_bit_set}
 
@@ -20,17 +20,9 @@ holds bits words b = nat_lt b bits && is_bit_set words b
 abbrev pub holds_from : ℕ → ℕ → List ℕ → ℕ → Bool
 holds_from bits first words b = nat_lt b bits && (not (nat_lt (b / 64) first) && (bit_at (slice_index words (b / 64 - first)) (b % 64) == 1))
 
--- whether the word with this number does, and whether the words before it do
+-- whether the word with this number does
 abbrev pub holds_in_word : ℕ → ℕ → ℕ → ℕ → Bool
 holds_in_word bits number word b = nat_lt b bits && ((b / 64 == number) && (bit_at word (b % 64) == 1))
-
-abbrev pub holds_before : ℕ → List ℕ → ℕ → ℕ → Bool
-holds_before bits words number b = nat_lt (b / 64) number && holds bits words b
-
--- the blocks that the words hold, the first of which has this number, were raised, and the next word has that one
-pub record RaisesFrom (era bits first : ℕ) (words : List ℕ) (next : ℕ) (old new : List ℕ) : Type 0 where
-  pub raises : Raises era (holds_from bits first words) old new
-  pub after : next ≡ first + length words
 
 -- the eras of these blocks are at least this one
 pub record AreAtLeast (era : ℕ) (held : ℕ → Bool) (eras : List ℕ) : Type 0 where

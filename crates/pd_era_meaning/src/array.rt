@@ -1,10 +1,11 @@
 //! The words of arrays, one after another.
 
-ghost use Rattle.std.specs.Prelude.{◌≡◌, ℕ, ◌+◌, ◌^◌, ◌<◌, ◌≤◌, [], ◌∷◌, ◌++◌, List, length, map, slice_index, IfErr, IfOk, IfSome, OnOk};
+ghost use Rattle.std.specs.Prelude.{◌≡◌, ℕ, ◌^◌, ◌<◌, [], ◌∷◌, ◌++◌, List, drop, length, map, slice_index, IfErr, IfOk, IfSome, OnOk};
 ghost use Rattle.std.specs.List.{range_with_len};
 ghost use Rattle.pd_kinds.specs.declared.check_fault.CheckFault.TheVariants.{Memory};
 ghost use Rattle.pd_kinds.specs.CheckFault.{CountsCheckFault};
 ghost use Rattle.pd_image.specs.Device.{IsAttached, OnlyReads};
+ghost use Rattle.pd_array.specs.declared.word.Word.TheVariants.{Four};
 ghost use Rattle.pd_array.specs.Word.{size_of};
 ghost use Rattle.pd_tree.specs.ArrayCursor.{array_words};
 ghost use Rattle.pd_era_meaning.specs.Eras.{TakesWords, words_below};
@@ -45,7 +46,7 @@ pub(crate) fn start_array(alloc: Global, root: u64, word: Word) -> Result<ArrayC
 }
 
 /// No eras, with room for so many. Want of memory is the only error.
-fn room_for(alloc: Global, count: u32) -> Result<Vec<u32>, CheckFault>
+pub(crate) fn room_for(alloc: Global, count: u32) -> Result<Vec<u32>, CheckFault>
     ensures empty { IfOk result (λ eras. eras.items ≡ []) }
     ensures memory { IfErr result (λ fault. fault ≡ Memory) }
 {
@@ -56,7 +57,7 @@ fn room_for(alloc: Global, count: u32) -> Result<Vec<u32>, CheckFault>
 }
 
 /// One more era. Want of memory is the only error.
-fn add_era(eras: &mut Vec<u32>, era: u32) -> Result<(), CheckFault>
+pub(crate) fn add_era(eras: &mut Vec<u32>, era: u32) -> Result<(), CheckFault>
     ensures added { OnOk result (eras.new.items ≡ eras.old.items ++ era ∷ []) }
     ensures memory { IfErr result (λ fault. fault ≡ Memory) }
 {
@@ -66,24 +67,26 @@ fn add_era(eras: &mut Vec<u32>, era: u32) -> Result<(), CheckFault>
     }
 }
 
-/// The first words, so many, of the array with this root; those past its end are 0.
-pub(crate) fn first_words<D: Device>(
-    alloc: Global,
+/// Makes the next words, so many, the part; those past the array's end are 0.
+pub(crate) fn fill_part<D: Device>(
+    words: &mut ArrayCursor,
     dev: &mut D,
-    root: u64,
+    part: &mut Vec<u32>,
     count: u32,
-) -> Result<Vec<u32>, CheckFault>
+) -> Result<(), CheckFault>
     requires attached { IsAttached (D.state dev.old) }
-    ensures words { IfOk result (λ eras. IfSome (D.state dev.old).held (λ image. eras.items ≡ map (slice_index (words_below 4 image root)) (range_with_len 0 count))) }
-    ensures number { IfOk result (λ eras. length eras.items ≡ count) }
+    requires size { words.old.word ≡ Four }
+    ensures words { OnOk result (IfSome (D.state dev.old).held (λ image. part.new.items ≡ map (slice_index (array_words image words.old)) (range_with_len 0 count))) }
+    ensures left { OnOk result (IfSome (D.state dev.old).held (λ image. array_words image words.new ≡ drop count (array_words image words.old))) }
+    ensures number { OnOk result (length part.new.items ≡ count) }
+    ensures size { words.new.word ≡ Four }
     ensures kept { OnlyReads (D.state dev.old) (D.state dev.new) }
     ensures faults { CountsCheckFault result (D.state dev.old).faults (D.state dev.new).faults }
 {
-    let mut words = start_array(alloc, root, Word::Four)?;
-    let mut eras = room_for(alloc, count)?;
+    part.clear();
     for i in 0..count {
-        let word = take_word(&mut words, dev)?;
-        add_era(&mut eras, word as u32)?;
+        let word = take_word(words, dev)?;
+        add_era(part, word as u32)?;
     }
-    Ok(eras)
+    Ok(())
 }

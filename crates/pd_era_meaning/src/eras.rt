@@ -1,6 +1,7 @@
-//! The era of each block.
+//! The era of each block, in one list.
 
-ghost use Rattle.std.specs.Prelude.{◌≡◌, [], length, IfOk, IfSome};
+ghost use Rattle.std.specs.Prelude.{◌≡◌, ◌++◌, [], length, IfErr, IfOk, IfSome, OnOk};
+ghost use Rattle.pd_kinds.specs.declared.check_fault.CheckFault.TheVariants.{Memory};
 ghost use Rattle.pd_kinds.specs.declared.kind.Kind.TheVariants.{Era};
 ghost use Rattle.pd_kinds.specs.declared.kind.Stage.TheVariants.{Whole};
 ghost use Rattle.pd_kinds.specs.CheckFault.{CountsCheckFault};
@@ -11,21 +12,30 @@ ghost use Rattle.pd_kinds.specs.Stages.{faults};
 ghost use Rattle.pd_image.specs.Device.{IsAttached, OnlyReads};
 ghost use Rattle.pd_era_meaning.specs.Eras.{eras_below};
 
-use crate::array::first_words;
+use crate::array::room_for;
 use crate::laws::lists_are_the_eras;
-use crate::sets::raise_all;
+use crate::parts::Eras;
 use pd_image::Device;
 use pd_kinds::{CheckFault, EraSuper};
 use std::alloc::Global;
 
+/// More eras behind those that are there. Want of memory is the only error.
+fn add_part(eras: &mut Vec<u32>, part: &[u32]) -> Result<(), CheckFault>
+    ensures added { OnOk result (eras.new.items ≡ eras.old.items ++ part.now) }
+    ensures memory { IfErr result (λ fault. fault ≡ Memory) }
+{
+    match eras.extend_from_slice(part) {
+        Ok(()) => Ok(()),
+        Err(_) => Err(CheckFault::Memory),
+    }
+}
+
 /// The era of each block of the target with this superblock, by ascending block, from block 0.
 ///
-/// It takes four bytes and a bit a block, 24 bytes an archived writeset, at most 32 bytes a block of the device, and the
-/// memory of two cursors at a time. The array blocks below a leaf of a writeset's tree are read once, however many archived
-/// writesets have the leaf at one place in their arrays. What it gives is said over the bytes of any
-/// image that the device tells: in an image without faults up to the stage Whole, whose superblock this is, these are the
-/// eras of its meaning. Over any device and superblock it is safe: a root outside of the device is that of an empty tree
-/// or array, and a key past the end of an era's type counts as the last era.
+/// It takes four bytes a block beside what `Eras` takes, which gives the same eras in parts and reads as often. What it gives is
+/// said over the bytes of any image that the device tells: in an image without faults up to the stage Whole, whose superblock
+/// this is, these are the eras of its meaning. Over any device and superblock it is safe: a root outside of the device is that
+/// of an empty tree or array, and a key past the end of an era's type counts as the last era.
 ///
 /// Fails with `CheckFault::Memory` where memory wasn't found, and with `CheckFault::Device` where a read failed.
 pub fn era_list<D: Device>(alloc: Global, dev: &mut D, s: &EraSuper) -> Result<Vec<u32>, CheckFault>
@@ -38,7 +48,10 @@ pub fn era_list<D: Device>(alloc: Global, dev: &mut D, s: &EraSuper) -> Result<V
     ensures faults { CountsCheckFault result (D.state dev.old).faults (D.state dev.new).faults }
 {
     lists_are_the_eras();
-    let mut eras = first_words(alloc, dev, s.array_root, s.blocks)?;
-    raise_all(alloc, dev, eras.as_mut_slice(), s)?;
+    let mut left = Eras::start(alloc, dev, s)?;
+    let mut eras = room_for(alloc, s.blocks)?;
+    while left.next(dev)? {
+        add_part(&mut eras, left.part())?;
+    }
     Ok(eras)
 }

@@ -43,10 +43,11 @@ fn raise_fresh(eras: &mut [u32], taken: &mut [u64], number: u64, word: u64, end:
     take(taken, number, word, end);
 }
 
-/// Raises the eras of the blocks before the end to this one that the words of an array block hold, the first of which has
-/// this number in its array.
+/// Raises the eras of the blocks before the end to this one that the words of an array block hold from word `from` on,
+/// which has the number `first`.
 pub(crate) fn raise_words_of(
     block: &Block,
+    from: usize,
     first: u64,
     eras: &mut [u32],
     taken: &mut [u64],
@@ -58,11 +59,11 @@ pub(crate) fn raise_words_of(
     requires room { end ≤ 64 * length taken.old }
     requires fits { end ≤ 4294967296 }
     requires taken { AreAtLeast era (is_bit_set taken.old) eras.old }
-    ensures raised { Raises era (holds_from end first (words_from 8 block.now.0 0)) eras.old eras.new }
+    ensures raised { Raises era (holds_from end first (words_from 8 block.now.0 from)) eras.old eras.new }
     ensures taken { AreAtLeast era (is_bit_set taken.new) eras.new }
 {
-    for i in 0..array_len(block, Word::Eight) {
-        let word = array_word(block, Word::Eight, i);
+    for i in 0..array_len(block, Word::Eight).saturating_sub(from) {
+        let word = array_word(block, Word::Eight, from + i);
         raise_fresh(eras, taken, first + i as u64, word, end, era);
     }
 }

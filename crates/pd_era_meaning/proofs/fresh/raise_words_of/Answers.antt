@@ -12,16 +12,16 @@ overflow_add-first c = let few = few_words Eight c.args.block.now.0 in omega ari
 
 pub loop-i-init : goal.loop-i-init
 loop-i-init c = record {
-  raised = raises_none c.args.era _ c.args.eras.now (λ b within. upto_none c.args.end c.args.first (words_from 8 c.args.block.now.0 0) b);
+  raised = raises_none c.args.era _ c.args.eras.now (λ b within. upto_none c.args.end c.args.first (words_from 8 c.args.block.now.0 c.args.from) b);
   taken = c.requires.taken;
 }
 
 pub loop-i-preserved : goal.loop-i-preserved
 loop-i-preserved c =
-    let words = words_from 8 c.args.block.now.0 0 in
+    let words = words_from 8 c.args.block.now.0 c.args.from in
     let i = c.loop-i.i in
     let word = c.array_word-word.result in
-    let is : word ≡ get_or words i 0 = c.array_word-word.ensures.value ∙ sym (word_in 8 c.args.block.now.0 i (omega arith)) in
+    let is : word ≡ get_or words i 0 = c.array_word-word.ensures.value ∙ sym (word_in 8 c.args.block.now.0 c.args.from i (omega arith)) in
     record {
       raised =
           raises_same c.args.era (λ b. holds_upto c.args.end c.args.first words i b || holds_in_word c.args.end (c.args.first + i) word b) (holds_upto c.args.end c.args.first words (i + 1)) c.args.eras.now c.raise_fresh.new.eras
@@ -32,8 +32,8 @@ loop-i-preserved c =
 
 pub returns-clause-raised : goal.returns-clause-raised
 returns-clause-raised c =
-    let words = words_from 8 c.args.block.now.0 0 in
-    let number = length-words 8 c.args.block.now.0 in
+    let words = words_from 8 c.args.block.now.0 c.args.from in
+    let number = length-words 8 c.args.block.now.0 c.args.from in
     let all : c.loop-i.i ≡ length words = omega (arith, c.loop-i-test.false, c.loop-i.auto.i-end) in
     raises_same c.args.era (holds_upto c.args.end c.args.first words c.loop-i.i) (holds_from c.args.end c.args.first words) c.args.eras.now c.loop-i.eras
     (λ b within. upto_all c.args.end c.args.first words c.loop-i.i b all) c.loop-i.invariant.raised

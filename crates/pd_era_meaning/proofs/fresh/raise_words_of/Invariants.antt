@@ -7,6 +7,6 @@ use Rattle.pd_era_meaning.proofs.fresh.raise_words_of.Given as goal
 -- the words before this one were looked at
 abbrev pub invariant-loop-i : goal.invariant-loop-i
 invariant-loop-i l = record {
-  raised : Raises l.era (holds_upto l.end l.first (words_from 8 l.block.0 0) l.i) l.initial.eras l.eras;
+  raised : Raises l.era (holds_upto l.end l.first (words_from 8 l.block.0 l.from) l.i) l.initial.eras l.eras;
   taken : AreAtLeast l.era (is_bit_set l.taken) l.eras;
 }

@@ -1,0 +1,96 @@
+//! The rows of the writesets, the latest era first.
+
+ghost use Rattle.std.specs.Prelude.{◌≡◌, ℕ, ◌^◌, ◌<◌, List, IfErr, IfOk, IfSome, OnOk};
+ghost use Rattle.pd_kinds.specs.declared.check_fault.CheckFault.TheVariants.{Memory};
+ghost use Rattle.pd_kinds.specs.CheckFault.{CountsCheckFault};
+ghost use Rattle.pd_image.specs.Device.{IsAttached, OnlyReads};
+ghost use Rattle.pd_era_meaning.specs.Eras.{sets_below};
+ghost use Rattle.pd_era_meaning.specs.Notes.{Knows};
+ghost use Rattle.pd_era_meaning.specs.Descent.{AddsSet};
+ghost use Rattle.pd_era_meaning.specs.Rows.{HasRows, HasSets, sets_of};
+
+use crate::descent::add_each;
+use crate::notes::{Row, Walk, make_ready, start_walk};
+use crate::sets::{add_set, all_sets, era_of_key};
+use pd_image::Device;
+use pd_kinds::{CheckFault, EraSuper};
+use pd_value::Writeset;
+use std::alloc::Global;
+
+/// The level of a root: at most 63 inner edges lead on from it.
+const ROOT_LEVEL: u32 = 64;
+
+/// Adds the rows of a writeset of this era, for the target's blocks.
+fn add_rows<D: Device>(
+    alloc: Global,
+    walk: &mut Walk,
+    dev: &mut D,
+    set: Writeset,
+    era: u32,
+    blocks: u32,
+) -> Result<(), CheckFault>
+    requires attached { IsAttached (D.state dev.old) }
+    ensures adds { OnOk result (IfSome (D.state dev.old).held (λ image. Knows image walk.old → AddsSet image blocks set era walk.old walk.new)) }
+    ensures kept { OnlyReads (D.state dev.old) (D.state dev.new) }
+    ensures faults { CountsCheckFault result (D.state dev.old).faults (D.state dev.new).faults }
+{
+    make_ready(alloc, walk, dev.blocks(), era)?;
+    let roots = [set.root];
+    let end = set.bits.min(blocks);
+    let _next = add_each(alloc, walk, ROOT_LEVEL, &roots, dev, 0, end)?;
+    Ok(())
+}
+
+/// Adds the rows of these writesets, the last one first.
+fn add_from_last<D: Device>(
+    alloc: Global,
+    walk: &mut Walk,
+    dev: &mut D,
+    sets: &mut Vec<(u64, Writeset)>,
+    blocks: u32,
+) -> Result<(), CheckFault>
+    requires attached { IsAttached (D.state dev.old) }
+    ensures sets { OnOk result (IfSome (D.state dev.old).held (λ image. Knows image walk.old → HasSets image blocks sets.old.items walk.old.rows.items walk.new.rows.items)) }
+    ensures kept { OnlyReads (D.state dev.old) (D.state dev.new) }
+    ensures faults { CountsCheckFault result (D.state dev.old).faults (D.state dev.new).faults }
+{
+    while let Some((key, set)) = sets.pop() {
+        add_rows(alloc, walk, dev, set, era_of_key(key), blocks)?;
+    }
+    Ok(())
+}
+
+/// The current writeset beside its era, behind the others, where there is one. Want of memory is the only error.
+fn add_current(sets: &mut Vec<(u64, Writeset)>, s: &EraSuper) -> Result<(), CheckFault>
+    ensures added { OnOk result (sets.new.items ≡ sets_of sets.old.items s.now) }
+    ensures era { s.now.era < 2 ^ 32 }
+    ensures memory { IfErr result (λ fault. fault ≡ Memory) }
+{
+    let key = u64::from(s.era);
+    if s.current_root == 0 {
+        return Ok(());
+    }
+    let set = Writeset {
+        bits: s.current_bits,
+        root: s.current_root,
+    };
+    add_set(sets, (key, set))
+}
+
+/// The rows of the writesets of the target with this superblock, archived ones and the current one.
+pub(crate) fn rows_of<D: Device>(
+    alloc: Global,
+    dev: &mut D,
+    s: &EraSuper,
+) -> Result<Vec<Row>, CheckFault>
+    requires attached { IsAttached (D.state dev.old) }
+    ensures rows { IfOk result (λ rows. IfSome (D.state dev.old).held (λ image. HasRows image s.now rows.items)) }
+    ensures kept { OnlyReads (D.state dev.old) (D.state dev.new) }
+    ensures faults { CountsCheckFault result (D.state dev.old).faults (D.state dev.new).faults }
+{
+    let mut sets = all_sets(alloc, dev, s.writesets_root)?;
+    add_current(&mut sets, s)?;
+    let mut walk = start_walk(alloc, dev.blocks())?;
+    add_from_last(alloc, &mut walk, dev, &mut sets, s.blocks)?;
+    Ok(walk.rows)
+}
