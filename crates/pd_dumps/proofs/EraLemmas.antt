@@ -1,6 +1,5 @@
 -- The lines of an era target: its runs, and what they come to without faults.
-use Rattle.std.proofs.Common.{◌≡◌, ℕ, ◌≤◌, List, [], ◌∷◌, ◌++◌, length, Option, IfSome, sym, ap, ◌∙◌, append_assoc, arith}
-use Rattle.std.proofs.lemmas.List.{append-nil}
+use Rattle.std.proofs.Common.{◌≡◌, ℕ, ◌≤◌, List, [], ◌∷◌, ◌++◌, length, Option, IfSome, sym, ap, ◌∙◌, arith}
 use Rattle.std.proofs.lemmas.List.Concat.{flat_map-append}
 use Rattle.pd_kinds.specs.declared.kind.Kind.TheVariants.{Era}
 use Rattle.pd_kinds.specs.declared.kind.Stage.TheVariants.{Order, Walk, Whole}
@@ -9,11 +8,9 @@ use Rattle.pd_kinds.specs.Graph.{block_at}
 use Rattle.pd_kinds.specs.Meaning.{era_meaning}
 use Rattle.pd_kinds.specs.Stages.{HasCleanSuper, era_checked, faults}
 use Rattle.pd_laws.proofs.CleanLemmas.{clean_super_where_none}
-use Rattle.pd_lines.specs.Printing.{Begun, Printed, Printing}
-use Rattle.pd_lines.proofs.Printing.{begun_after, begun_first, printed_both}
 use Rattle.pd_grammar.specs.Texts.{written}
 use Rattle.pd_spells.specs.EraText.{Line, end_line, era, joined_eras, run_lines, text_of_era}
-use Rattle.pd_texts.specs.Printed.{end_text, text_of_line}
+use Rattle.pd_texts.specs.Printed.{end_text}
 use Rattle.pd_era_meaning.specs.Eras.{GivesEras, eras_below}
 use Rattle.pd_query.proofs.PutsLemmas.{one_told, two_told}
 use Rattle.pd_dumps.specs.EraLines.{era_dump_text, rest_text, runs_text}
@@ -21,28 +18,6 @@ use Rattle.pd_dumps.specs.EraLines.{era_dump_text, rest_text, runs_text}
 -- the lines of the runs, and the last one
 pub last_line : (eras : List ℕ) → rest_text eras ≡ runs_text (run_lines 0 (joined_eras eras)) ++ end_text
 last_line eras = flat_map-append (λ (line : Line). written era line ++ (10 ∷ [])) (run_lines 0 (joined_eras eras)) (end_line ∷ [])
-
--- so far the lines of some runs were printed, which with the others are all
-pub record RunsSoFar (whole left : List Line) (old new : Printing) : Type 0 where
-  pub lines : List Line
-  pub split : whole ≡ lines ++ left
-  pub printed : Printed (runs_text lines) old new
-
-pub runs_more : {whole left : List Line} (line : Line) (later : List Line) {old mid new : Printing} → RunsSoFar whole left old mid → left ≡ line ∷ later → Printed (text_of_line era line) mid new
-    → RunsSoFar whole later old new
-runs_more line later so_far is printed = record {
-  lines = so_far.lines ++ (line ∷ []);
-  split = so_far.split ∙ (ap (λ (xs : List Line). so_far.lines ++ xs) is ∙ sym (append_assoc so_far.lines (line ∷ []) later));
-  printed = rw (flat_map-append (λ (line : Line). written era line ++ (10 ∷ [])) so_far.lines (line ∷ []), append-nil (text_of_line era line)) (printed_both so_far.printed printed);
-}
-
-pub runs_all : {whole left : List Line} {old new : Printing} → RunsSoFar whole left old new → left ≡ [] → Printed (runs_text whole) old new
-runs_all so_far none = rw (so_far.split ∙ (ap (λ (xs : List Line). so_far.lines ++ xs) none ∙ append-nil so_far.lines)) so_far.printed
-
-pub runs_lost : {whole left : List Line} (line : Line) (later : List Line) {old mid new : Printing} → RunsSoFar whole left old mid → left ≡ line ∷ later → Begun (text_of_line era line) mid new
-    → Begun (runs_text whole) old new
-runs_lost {whole} {left} line later so_far is begun =
-    rw (so_far.split, is, flat_map-append (λ (line : Line). written era line ++ (10 ∷ [])) so_far.lines (line ∷ later)) (begun_after so_far.printed (begun_first (runs_text later) begun))
 
 -- an image without faults has a block
 some_if_clean : (image : List (List ℕ)) → HasCleanSuper (era_checked image) image → 1 ≤ length image
@@ -60,14 +35,14 @@ unfolding text_of_era era_meaning
 text_is image gives = ap (λ (eras : List ℕ). era_dump_text (era_fields (block_at image 0)) eras) (sym gives.eras)
 
 -- the text over the superblock that was read, and the eras that are given of it
-pub text_given : (held : Option (List (List ℕ))) (s : EraFields) (eras : List ℕ)
-    → IfSome held (λ image. 1 ≤ length image → s ≡ era_fields (block_at image 0)) → IfSome held (λ image. eras ≡ eras_below image s)
-    → IfSome held (λ image. 1 ≤ length image → era_dump_text s eras ≡ era_dump_text (era_fields (block_at image 0)) (eras_below image (era_fields (block_at image 0))))
-text_given held s eras read given = two_told held (λ image read given some.
+pub text_given : (held : Option (List (List ℕ))) (s : EraFields) (left : List (List ℕ) → List ℕ)
+    → IfSome held (λ image. 1 ≤ length image → s ≡ era_fields (block_at image 0)) → IfSome held (λ image. left image ≡ eras_below image s)
+    → IfSome held (λ image. 1 ≤ length image → era_dump_text s (left image) ≡ era_dump_text (era_fields (block_at image 0)) (eras_below image (era_fields (block_at image 0))))
+text_given held s left read given = two_told held (λ image read given some.
     ap (λ (es : List ℕ). era_dump_text s es) given ∙ ap (λ (fields : EraFields). era_dump_text fields (eras_below image fields)) (read some)) read given
 
-pub text_means : (held : Option (List (List ℕ))) (text : List ℕ)
-    → IfSome held (λ image. 1 ≤ length image → text ≡ era_dump_text (era_fields (block_at image 0)) (eras_below image (era_fields (block_at image 0))))
+pub text_means : (held : Option (List (List ℕ))) (text : List (List ℕ) → List ℕ)
+    → IfSome held (λ image. 1 ≤ length image → text image ≡ era_dump_text (era_fields (block_at image 0)) (eras_below image (era_fields (block_at image 0))))
     → ((image : List (List ℕ)) → faults Era Whole image ≡ [] → era_dump_text (era_fields (block_at image 0)) (eras_below image (era_fields (block_at image 0))) ≡ text_of_era (era_meaning image))
-    → IfSome held (λ image. faults Era Whole image ≡ [] → text ≡ text_of_era (era_meaning image))
+    → IfSome held (λ image. faults Era Whole image ≡ [] → text image ≡ text_of_era (era_meaning image))
 text_means held text given law = one_told held (λ image given none. given (has_some image none) ∙ law image none) given

@@ -2,3 +2,6 @@ pub mod CacheRowLemmas
 pub mod CacheMeaningLemmas
 pub mod EraLemmas
 pub mod SinceLemmas
+pub mod PartLemmas
+pub mod EraRunLemmas
+pub mod SinceRunLemmas

@@ -5,7 +5,9 @@ use Rattle.pd_kinds.specs.Meaning.{CacheEntry}
 use Rattle.pd_grammar.specs.Texts.{text_of_lines}
 use Rattle.pd_spells.specs.CacheText.{Head, Line, cache, cache_line, end_line, first_line, flag_number, row_of}
 use Rattle.pd_cache_meaning.specs.declared.side_arrays.CacheRow.{CacheRow}
+use Rattle.pd_cache_meaning.specs.declared.cache_rows.CacheRows.{CacheRows}
 use Rattle.pd_cache_meaning.specs.Rows.{rows_below}
+use Rattle.pd_cache_meaning.specs.RowsAhead.{rows_ahead}
 
 -- a row as the entry that is put: its block is at most the greatest number of its field
 abbrev pub given_entry : CacheRow → CacheEntry
@@ -47,3 +49,7 @@ rows_text rows = text_of_lines cache (map given_line rows)
 
 abbrev pub rest_text : List CacheRow → List ℕ
 rest_text rows = text_of_lines cache (rest_lines rows)
+
+-- the text of the cache with this superblock and the rows that are left
+abbrev pub rows_dump_text : List (List ℕ) → CacheFields → CacheRows → List ℕ
+rows_dump_text image fields rows = text_of_lines cache (dump_lines fields (rows_ahead image rows))

@@ -3,3 +3,6 @@ pub mod CacheDump
 pub mod EraLines
 pub mod EraDump
 pub mod SinceLines
+pub mod Cut
+pub mod EraRun
+pub mod SinceRun

@@ -1,9 +1,18 @@
 //! The dump of a cache.
 
+ghost use Rattle.std.specs.Prelude.{◌≡◌, ℕ, List, IfSome};
+ghost use Rattle.std.proofs.Props.{props};
+ghost use Rattle.pd_image.specs.Device.{IsAttached, OnlyReads};
+ghost use Rattle.pd_image.specs.Sink.{KeepsSink};
+ghost use Rattle.pd_query.specs.Puts.{PutsText};
+ghost use Rattle.pd_query.specs.Failing.{Fails};
+ghost use Rattle.pd_cache_meaning.specs.RowsAhead.{Knows};
+ghost use Rattle.pd_dumps.specs.CacheLines.{rows_dump_text};
+
 use crate::cache_lines::add_cache;
 use crate::laws::given_cache_lines_are_the_text;
 use crate::supers::read_cache;
-use pd_cache_meaning::CacheMaps;
+use pd_cache_meaning::CacheRows;
 use pd_image::{Device, Sink};
 use pd_kinds::CacheSuper;
 use pd_lines::Printer;
@@ -14,7 +23,29 @@ use std::alloc::{AllocError, Global};
 #[derive(Drop)]
 pub struct CacheDump {
     s: CacheSuper,
-    maps: CacheMaps,
+    /// Its mappings, until they are put. Nothing is noted of their array blocks yet.
+    rows: Option<CacheRows>,
+    ghost unread: { IfSome rows (λ rows. (image : List (List ℕ)) → Knows image rows) } by { Prim.hlevel props },
+}
+
+/// Puts the text of the cache with this superblock and these mappings.
+fn put_rows<D: Device, K: Sink>(
+    s: &CacheSuper,
+    rows: &mut CacheRows,
+    dev: &mut D,
+    out: &mut K,
+) -> Result<(), QueryFault>
+    requires dev { IsAttached (D.state dev.old) }
+    requires out { (K.state out.old).access ≡ 1 }
+    requires knows { IfSome (D.state dev.old).held (λ image. Knows image rows.old) }
+    ensures text { PutsText (D.state dev.old).held (λ image. rows_dump_text image s.now rows.old) result (K.state out.old).written (K.state out.new).written }
+    ensures kept { OnlyReads (D.state dev.old) (D.state dev.new) }
+    ensures sink { KeepsSink (K.state out.old) (K.state out.new) }
+    ensures faults { Fails result (D.state dev.old).faults (D.state dev.new).faults (K.state out.old).faults (K.state out.new).faults }
+{
+    let mut printer = Printer::to_sink(out);
+    add_cache(s, rows, dev, &mut printer)?;
+    finish(printer)
 }
 
 impl CacheDump {
@@ -33,7 +64,8 @@ impl CacheDump {
     ghost use Rattle.pd_dumps.specs.CacheDump.{text_left};
     ghost use Rattle.pd_dumps.specs.CacheLines.{cache_dump_text};
 
-    /// Reads the superblock of a cache, and takes the memory for its dump: at most three cursors over arrays.
+    /// Reads the superblock of a cache, and takes the memory for its dump: at most three cursors over arrays, and for each
+    /// of these arrays two bytes a block of the device, which are used as far as the last array block that is noted.
     ///
     /// Fails with `Device` where a read failed, and with `Memory` where that memory wasn't found.
     pub fn start<D: Device>(alloc: Global, dev: &mut D) -> Result<CacheDump, QueryFault>
@@ -48,16 +80,20 @@ impl CacheDump {
             Ok(s) => s,
             Err(_) => return Err(QueryFault::Device),
         };
-        let dump = CacheDump::with_super(alloc, s)?;
+        let blocks = dev.blocks();
+        let dump = CacheDump::with_super(alloc, blocks, s)?;
         Ok(dump)
     }
 
-    /// Takes the memory for the dump of the cache with this superblock.
-    fn with_super(alloc: Global, s: CacheSuper) -> Result<CacheDump, AllocError>
+    /// Takes the memory for the dump of the cache with this superblock, over a device of so many blocks.
+    fn with_super(alloc: Global, blocks: u64, s: CacheSuper) -> Result<CacheDump, AllocError>
         ensures text { (image : List (List ℕ)) → IfOk result (λ dump. text_left image dump ≡ cache_dump_text image s) }
     {
-        let maps = CacheMaps::start(alloc, &s)?;
-        Ok(CacheDump { s, maps })
+        let rows = CacheRows::start(alloc, blocks, &s)?;
+        Ok(CacheDump {
+            s,
+            rows: Some(rows),
+        })
     }
 
     /// Puts the cache's text, once. It takes no memory.
@@ -71,9 +107,13 @@ impl CacheDump {
         ensures sink { KeepsSink (K.state out.old) (K.state out.new) }
         ensures faults { Fails result (D.state dev.old).faults (D.state dev.new).faults (K.state out.old).faults (K.state out.new).faults }
     {
-        let mut printer = Printer::to_sink(out);
-        add_cache(&self.s, &mut self.maps, dev, &mut printer)?;
-        finish(printer)
+        match self.rows.take() {
+            Some(rows) => {
+                let mut rows = rows;
+                put_rows(&self.s, &mut rows, dev, out)
+            }
+            None => Ok(()),
+        }
     }
 }
 

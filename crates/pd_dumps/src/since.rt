@@ -19,10 +19,10 @@ use pd_query::{Query, QueryFault};
 use std::alloc::Global;
 
 /// Puts a line for each longest run of blocks whose era is the given one or a later one, by ascending block, of the era
-/// target with this superblock. It holds the era of each block, in four bytes.
+/// target with this superblock. It reads the eras part by part, and holds one part at a time, in four bytes a block.
 ///
 /// Fails with `Device` where a read failed, with `Memory` where memory wasn't found, and with `Sink` where `out` failed;
-/// then a front of the lines was put. Nothing is put before all eras were read.
+/// then a front of the lines was put. Lines may be put before all eras were read.
 pub fn written_since<D: Device, K: Sink>(
     alloc: Global,
     dev: &mut D,
@@ -39,8 +39,8 @@ pub fn written_since<D: Device, K: Sink>(
     ensures faults { QueryEnds result (D.state dev.old).faults (D.state dev.new).faults (K.state out.old).faults (K.state out.new).faults }
 {
     lists_are_the_eras();
-    let eras = eras_of(alloc, dev, s)?;
-    put_since(era, eras.as_slice(), out)
+    let mut eras = eras_of(alloc, dev, s)?;
+    put_since(era, &mut eras, dev, out)
 }
 
 /// Which blocks of an era target were written in this era or later, as it is asked for.

@@ -1,21 +1,47 @@
-use Rattle.std.proofs.Common.{◌∙◌}
-use Rattle.pd_lines.proofs.Printing.{begun_with}
-use Rattle.pd_era_texts.specs.EraLine.{line_of}
-use Rattle.pd_era_texts.specs.Runs.{runs_left}
-use Rattle.pd_dumps.proofs.EraLemmas.{runs_all, runs_lost, runs_more}
+use Rattle.std.proofs.Common.{ap, ◌∙◌}
+use Rattle.pd_image.proofs.ReadLemmas.{only_reads_both}
+use Rattle.pd_era_meaning.specs.Parts.{blocks_left, eras_left}
+use Rattle.pd_query.proofs.PutsLemmas.{each_told, lost_with, prints_told, so_far_stops}
+use Rattle.pd_dumps.specs.declared.era_run.EraRun.{EraRun}
+use Rattle.pd_dumps.specs.EraRun.{end_of, text_from}
+use Rattle.pd_dumps.proofs.PartLemmas.{none_taken, part_counted, part_lost, part_more, part_taken, parts_end, still_few}
 use Rattle.pd_dumps.proofs.era_lines.add_runs.Goals as goal
 
-pub returns-in_err-print_text_line-clause-prints : goal.returns-in_err-print_text_line-clause-prints
-returns-in_err-print_text_line-clause-prints g c =
-    begun_with c.from_residual.result c.from_residual.ensures.0
-    (runs_lost (line_of c.in-Some.line) (runs_left c.next.new.self) c.loop-line.invariant.so_far c.in-Some.ensures.steps c.in_err-print_text_line.ensures.prints)
+pub returns-in_err-next-clause-prints : goal.returns-in_err-next-clause-prints
+returns-in_err-next-clause-prints g c =
+    let held = (g.D.Device.state c.args.dev.now).held in
+    prints_told held (each_told held (λ image. ap (λ (run : EraRun). text_from run (eras_left image c.args.eras.now)) c.none-run.ensures))
+    (lost_with held c.from_residual.result c.from_residual.ensures.0 (so_far_stops held c.in_err-next.field-0.0 c.loop-run.invariant.so_far))
+
+pub loop-run-preserved : goal.loop-run-preserved
+loop-run-preserved g c =
+    let held = (g.D.Device.state c.args.dev.now).held in
+    let counted = part_counted c.loop-run.eras c.next.new.self c.if-branch.true c.in_ok-next.ensures.number in
+    record {
+      same_reference = c.in_ok-take.ensures.same_reference ∙ c.loop-run.invariant.same_reference;
+      so_far =
+          part_more held {left = λ image. eras_left image c.next.new.self} (text_from c.loop-run.run) (text_from c.take.new.self) c.part.result.now c.loop-run.invariant.so_far
+          (part_taken held c.loop-run.eras c.next.new.self c.part.result.now c.if-branch.true c.part.ensures (rw c.loop-run.invariant.kept.held at c.in_ok-next.ensures.next))
+          (λ later. c.in_ok-take.ensures.prints later);
+      few = still_few (end_of c.loop-run.run) (end_of c.take.new.self) (blocks_left c.next.new.self) (blocks_left c.loop-run.eras) c.part.result.now c.next.new.self.part.items
+          c.part.ensures c.in_ok-take.ensures.number counted.number c.loop-run.invariant.few;
+      kept = only_reads_both c.loop-run.invariant.kept c.in_ok-next.ensures.kept;
+      dev_faults = c.in_ok-next.ensures.faults ∙ c.loop-run.invariant.dev_faults;
+      out_faults = c.in_ok-take.ensures.faults ∙ c.loop-run.invariant.out_faults;
+    }
+
+pub returns-in_err-take-clause-prints : goal.returns-in_err-take-clause-prints
+returns-in_err-take-clause-prints g c =
+    let held = (g.D.Device.state c.args.dev.now).held in
+    prints_told held (each_told held (λ image. ap (λ (run : EraRun). text_from run (eras_left image c.args.eras.now)) c.none-run.ensures))
+    (lost_with held c.from_residual-in_err-take.result c.from_residual-in_err-take.ensures.0
+    (part_lost held {fault = c.in_err-take.field-0.0} (λ image. eras_left image c.next.new.self) (text_from c.loop-run.run) c.part.result.now c.loop-run.invariant.so_far
+    (part_taken held c.loop-run.eras c.next.new.self c.part.result.now c.if-branch.true c.part.ensures (rw c.loop-run.invariant.kept.held at c.in_ok-next.ensures.next))
+    (λ later. c.in_err-take.ensures.prints later)))
 
 pub returns-clause-prints : goal.returns-clause-prints
-returns-clause-prints g c = runs_all c.loop-line.invariant.so_far c.in-None.ensures.steps.0
-
-pub loop-line-preserved : goal.loop-line-preserved
-loop-line-preserved g c = record {
-  same_reference = c.in_ok-print_text_line.ensures.same_reference ∙ c.loop-line.invariant.same_reference;
-  so_far = runs_more (line_of c.in-Some.line) (runs_left c.next.new.self) c.loop-line.invariant.so_far c.in-Some.ensures.steps c.in_ok-print_text_line.ensures.prints;
-  faults = c.in_ok-print_text_line.ensures.faults ∙ c.loop-line.invariant.faults;
-}
+returns-clause-prints g c =
+    let held = (g.D.Device.state c.args.dev.now).held in
+    prints_told held (each_told held (λ image. ap (λ (run : EraRun). text_from run (eras_left image c.args.eras.now)) c.none-run.ensures))
+    (parts_end held c.end.result (text_from c.loop-run.run) c.loop-run.invariant.so_far
+    (none_taken held c.loop-run.eras c.next.new.self c.if-branch.false (rw c.loop-run.invariant.kept.held at c.in_ok-next.ensures.next)) c.end.ensures.prints)

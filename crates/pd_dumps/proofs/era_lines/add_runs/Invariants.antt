@@ -1,13 +1,21 @@
-use Rattle.std.proofs.Common.{◌≡◌}
+use Rattle.std.proofs.Common.{◌≡◌, ◌+◌, ◌^◌, ◌<◌}
+use Rattle.pd_image.specs.Device.{OnlyReads}
 use Rattle.pd_lines.specs.Printer.{printing}
-use Rattle.pd_spells.specs.EraText.{joined_eras, run_lines}
-use Rattle.pd_era_texts.specs.Runs.{runs_left}
-use Rattle.pd_dumps.proofs.EraLemmas.{RunsSoFar}
+use Rattle.pd_era_meaning.specs.Parts.{blocks_left, eras_left}
+use Rattle.pd_query.proofs.PutsLemmas.{PrintsSoFar}
+use Rattle.pd_dumps.specs.EraRun.{end_of, text_from}
 use Rattle.pd_dumps.proofs.era_lines.add_runs.Given as goal
 
-abbrev pub invariant-loop-line : goal.invariant-loop-line
-invariant-loop-line g l = record {
+abbrev pub invariant-loop-run : goal.invariant-loop-run
+invariant-loop-run g l = record {
   same_reference : l.printer.out.ghost_name ≡ l.initial.printer.out.ghost_name;
-  so_far : RunsSoFar (run_lines 0 (joined_eras l.fn.eras)) (runs_left l.line-iterator) (printing g.K.Sink.state l.initial.printer) (printing g.K.Sink.state l.printer);
-  faults : (g.K.Sink.state l.printer.out.now).faults ≡ (g.K.Sink.state l.initial.printer.out.now).faults;
+  so_far : PrintsSoFar (g.D.Device.state l.initial.dev).held (λ image. text_from l.initial.run (eras_left image l.initial.eras)) (λ image. text_from l.run (eras_left image l.eras))
+      (printing g.K.Sink.state l.initial.printer) (printing g.K.Sink.state l.printer);
+  few : end_of l.run + blocks_left l.eras < 2 ^ 32;
+  kept : OnlyReads (g.D.Device.state l.initial.dev) (g.D.Device.state l.dev);
+  dev_faults : (g.D.Device.state l.dev).faults ≡ (g.D.Device.state l.initial.dev).faults;
+  out_faults : (g.K.Sink.state l.printer.out.now).faults ≡ (g.K.Sink.state l.initial.printer.out.now).faults;
 }
+
+abbrev pub decreases-loop-run : goal.decreases-loop-run
+decreases-loop-run g l = blocks_left l.eras

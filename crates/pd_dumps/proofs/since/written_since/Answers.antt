@@ -1,10 +1,12 @@
-use Rattle.std.proofs.Common.{refl, ◌∙◌, ap, sym}
+use Rattle.std.proofs.Common.{List, ℕ, refl, ◌∙◌, ap, subst, sym}
 use Rattle.std.proofs.lemmas.Result.{err_from_is_err_and}
 use Rattle.pd_kinds.specs.Meaning.{era_meaning}
 use Rattle.pd_answers.specs.QueryLines.{since_lines}
 use Rattle.pd_query.proofs.PutsLemmas.{one_told}
-use Rattle.pd_query.proofs.QueryLemmas.{puts_none}
+use Rattle.pd_query.proofs.QueryLemmas.{puts_as, puts_none}
+use Rattle.pd_query.specs.Puts.{PutsText}
 use Rattle.pd_era_meaning.specs.Eras.{eras_below}
+use Rattle.pd_era_meaning.specs.Parts.{eras_left}
 use Rattle.pd_dumps.specs.SinceLines.{since_text}
 use Rattle.pd_dumps.proofs.SinceLemmas.{lines_are}
 use Rattle.pd_dumps.proofs.since.written_since.Goals as goal
@@ -20,19 +22,17 @@ returns-in_err-eras-clause-lines g c =
     rw (p.1, p.2) (puts_none (g.D.Device.state c.args.dev.now).held (λ image. since_lines c.args.era (era_meaning image)) c.in_err-eras.field-0.0 refl (λ image own none. refl))
 
 pub returns-clause-text : goal.returns-clause-text
-returns-clause-text g c = record {
-  text = since_text c.args.era c.in_ok-eras.eras.items;
-  told = one_told (g.D.Device.state c.args.dev.now).held (λ image is. ap (since_text c.args.era) is) c.in_ok-eras.ensures.eras;
-  whole = rw c.as_slice.ensures.value at c.put_since.ensures.whole;
-  front = rw c.as_slice.ensures.value at c.put_since.ensures.front;
-}
+returns-clause-text g c =
+    let state = g.K.Sink.state in
+    let text_of = λ (image : List (List ℕ)). since_text c.args.era (eras_left image c.in_ok-eras.eras) in
+    puts_as (one_told (g.D.Device.state c.args.dev.now).held (λ image is text told. told ∙ ap (since_text c.args.era) is) c.in_ok-eras.ensures.eras)
+    (subst (λ held. PutsText held text_of c.put_since.result (state c.args.out.now).written (state c.put_since.new.out).written) c.in_ok-eras.ensures.kept.held c.put_since.ensures.text)
 
 pub returns-clause-lines : goal.returns-clause-lines
-returns-clause-lines g c = record {
-  text = since_text c.args.era c.in_ok-eras.eras.items;
-  told =
-      one_told (g.D.Device.state c.args.dev.now).held
-      (λ image is own none. ap (since_text c.args.era) is ∙ lines_are c.args.era c.args.s.now image own (sym (c.lists_are_the_eras.ensures image none).eras)) c.in_ok-eras.ensures.eras;
-  whole = rw c.as_slice.ensures.value at c.put_since.ensures.whole;
-  front = rw c.as_slice.ensures.value at c.put_since.ensures.front;
-}
+returns-clause-lines g c =
+    let state = g.K.Sink.state in
+    let text_of = λ (image : List (List ℕ)). since_text c.args.era (eras_left image c.in_ok-eras.eras) in
+    puts_as
+    (one_told (g.D.Device.state c.args.dev.now).held
+    (λ image is text told own none. told ∙ (ap (since_text c.args.era) is ∙ lines_are c.args.era c.args.s.now image own (sym (c.lists_are_the_eras.ensures image none).eras))) c.in_ok-eras.ensures.eras)
+    (subst (λ held. PutsText held text_of c.put_since.result (state c.args.out.now).written (state c.put_since.new.out).written) c.in_ok-eras.ensures.kept.held c.put_since.ensures.text)

@@ -1,17 +1,48 @@
-use Rattle.std.proofs.Common.{◌∙◌, arith}
-use Rattle.pd_lines.proofs.Printing.{begun_with, printed_both}
-use Rattle.pd_dumps.proofs.SinceLemmas.{since_lost, since_more}
+use Rattle.std.proofs.Common.{ap, sym, ◌∙◌}
+use Rattle.pd_image.proofs.ReadLemmas.{only_reads_both}
+use Rattle.pd_era_meaning.specs.Parts.{blocks_left, eras_left}
+use Rattle.pd_query.proofs.PutsLemmas.{each_told, lost_with, prints_told, so_far_stops}
+use Rattle.pd_dumps.specs.declared.since_run.SinceRun.{SinceRun}
+use Rattle.pd_dumps.proofs.SinceRunLemmas.{all_lines}
+use Rattle.pd_dumps.specs.SinceRun.{end_of, text_from}
+use Rattle.pd_dumps.proofs.PartLemmas.{none_taken, part_counted, part_lost, part_more, part_taken, parts_end, still_few}
 use Rattle.pd_dumps.proofs.since_lines.add_since.Goals as goal
 
-pub returns-in_err-add_run_at-clause-prints : goal.returns-in_err-add_run_at-clause-prints
-returns-in_err-add_run_at-clause-prints g c =
-    let within = c.loop-block-test.true in
-    begun_with c.from_residual.result c.from_residual.ensures.0
-    (since_lost c.args.since c.args.eras.now c.loop-block.block (omega arith) c.loop-block.invariant.printed c.in_err-add_run_at.ensures.prints)
+pub returns-in_err-next-clause-prints : goal.returns-in_err-next-clause-prints
+returns-in_err-next-clause-prints g c =
+    let held = (g.D.Device.state c.args.dev.now).held in
+    prints_told held (each_told held (λ image. ap (λ (run : SinceRun). text_from run (eras_left image c.args.eras.now)) c.none-run.ensures ∙ sym (all_lines c.args.since (eras_left image c.args.eras.now))))
+    (lost_with held c.from_residual.result c.from_residual.ensures.0 (so_far_stops held c.in_err-next.field-0.0 c.loop-run.invariant.so_far))
 
-pub loop-block-preserved : goal.loop-block-preserved
-loop-block-preserved g c = record {
-  same_reference = c.in_ok-add_run_at.ensures.same_reference ∙ c.loop-block.invariant.same_reference;
-  printed = rw (since_more c.args.since c.args.eras.now c.loop-block.block) (printed_both c.loop-block.invariant.printed c.in_ok-add_run_at.ensures.prints);
-  faults = c.in_ok-add_run_at.ensures.faults ∙ c.loop-block.invariant.faults;
-}
+pub loop-run-preserved : goal.loop-run-preserved
+loop-run-preserved g c =
+    let held = (g.D.Device.state c.args.dev.now).held in
+    let counted = part_counted c.loop-run.eras c.next.new.self c.if-branch.true c.in_ok-next.ensures.number in
+    record {
+      same_reference = c.in_ok-take.ensures.same_reference ∙ c.loop-run.invariant.same_reference;
+      so_far =
+          part_more held {left = λ image. eras_left image c.next.new.self} (text_from c.loop-run.run) (text_from c.take.new.self) c.part.result.now c.loop-run.invariant.so_far
+          (part_taken held c.loop-run.eras c.next.new.self c.part.result.now c.if-branch.true c.part.ensures (rw c.loop-run.invariant.kept.held at c.in_ok-next.ensures.next))
+          (λ later. c.in_ok-take.ensures.prints later);
+      few = still_few (end_of c.loop-run.run) (end_of c.take.new.self) (blocks_left c.next.new.self) (blocks_left c.loop-run.eras) c.part.result.now c.next.new.self.part.items
+          c.part.ensures c.in_ok-take.ensures.number counted.number c.loop-run.invariant.few;
+      kept = only_reads_both c.loop-run.invariant.kept c.in_ok-next.ensures.kept;
+      dev_faults = c.in_ok-next.ensures.faults ∙ c.loop-run.invariant.dev_faults;
+      out_faults = c.in_ok-take.ensures.faults ∙ c.loop-run.invariant.out_faults;
+    }
+
+pub returns-in_err-take-clause-prints : goal.returns-in_err-take-clause-prints
+returns-in_err-take-clause-prints g c =
+    let held = (g.D.Device.state c.args.dev.now).held in
+    prints_told held (each_told held (λ image. ap (λ (run : SinceRun). text_from run (eras_left image c.args.eras.now)) c.none-run.ensures ∙ sym (all_lines c.args.since (eras_left image c.args.eras.now))))
+    (lost_with held c.from_residual-in_err-take.result c.from_residual-in_err-take.ensures.0
+    (part_lost held {fault = c.in_err-take.field-0.0} (λ image. eras_left image c.next.new.self) (text_from c.loop-run.run) c.part.result.now c.loop-run.invariant.so_far
+    (part_taken held c.loop-run.eras c.next.new.self c.part.result.now c.if-branch.true c.part.ensures (rw c.loop-run.invariant.kept.held at c.in_ok-next.ensures.next))
+    (λ later. c.in_err-take.ensures.prints later)))
+
+pub returns-clause-prints : goal.returns-clause-prints
+returns-clause-prints g c =
+    let held = (g.D.Device.state c.args.dev.now).held in
+    prints_told held (each_told held (λ image. ap (λ (run : SinceRun). text_from run (eras_left image c.args.eras.now)) c.none-run.ensures ∙ sym (all_lines c.args.since (eras_left image c.args.eras.now))))
+    (parts_end held c.end.result (text_from c.loop-run.run) c.loop-run.invariant.so_far
+    (none_taken held c.loop-run.eras c.next.new.self c.if-branch.false (rw c.loop-run.invariant.kept.held at c.in_ok-next.ensures.next)) c.end.ensures.prints)

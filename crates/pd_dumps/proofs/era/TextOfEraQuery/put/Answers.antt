@@ -1,9 +1,7 @@
-use Rattle.pd_dumps.specs.EraDump.{text_left}
-use Rattle.pd_query.proofs.QueryLemmas.{sink_ends_as}
+use Rattle.std.proofs.Common.{◌∙◌}
+use Rattle.pd_query.proofs.PutsLemmas.{one_told}
+use Rattle.pd_query.proofs.QueryLemmas.{puts_as}
 use Rattle.pd_dumps.proofs.era.TextOfEraQuery.put.Goals as goal
 
 pub returns-clause-text : goal.returns-clause-text
-returns-clause-text g c = record { text = text_left c.args.started; told = c.requires.over; whole = c.put.ensures.whole; front = c.put.ensures.front }
-
-pub returns-clause-faults : goal.returns-clause-faults
-returns-clause-faults g c = sink_ends_as _ _ _ _ c.put.ensures.faults
+returns-clause-text g c = puts_as (one_told (g.D.Device.state c.args.dev.now).held (λ image own text is none. is ∙ own none) c.requires.over) c.put.ensures.text
