@@ -1,6 +1,6 @@
 //! The entries that are found of a cache.
 
-ghost use Rattle.std.specs.Prelude.{◌≡◌, ℕ, ◌+◌, ◌-◌, ◌*◌, ◌<◌, ◌≤◌, ◌++◌, List, map, IfOk, IfSome, OnOk, min};
+ghost use Rattle.std.specs.Prelude.{◌≡◌, ◌+◌, ◌-◌, ◌*◌, ◌<◌, ◌≤◌, ◌++◌, List, map, IfOk, IfSome, OnOk, min};
 ghost use Rattle.std.specs.List.{AllByRecursion, filter_map, range_with_len};
 ghost use Rattle.pd_image.specs.Device.{IsAttached, OnlyReads};
 ghost use Rattle.pd_kinds.specs.CacheFormat.{CacheFields};
@@ -15,7 +15,7 @@ use crate::row::Row;
 use pd_image::Device;
 use pd_kinds::CacheSuper;
 use pd_salvage::SalvageFault;
-use std::alloc::{AllocError, Global};
+use std::alloc::Global;
 
 /// How many cache blocks have their words in one block of the mapping array.
 const WORDS: u32 = 509;

@@ -20,5 +20,5 @@ pub use latest::time_of_saved;
 pub use lines::put_kept;
 pub use query::KeptOfPool;
 pub use room::least_room;
-pub use states::{Looked, look_for_states, put_looked};
+pub use states::{Looked, look_for_states, put_looked, usable_blocks};
 pub use weighing::kept_by_repair;

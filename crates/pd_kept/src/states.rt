@@ -69,7 +69,7 @@ pub fn look_for_states<D: Device>(
 }
 
 /// How many blocks of a device can be metadata: all, but no more than `MAX_META_BLOCKS`.
-fn usable_blocks<D: Device>(dev: &D) -> u64
+pub fn usable_blocks<D: Device>(dev: &D) -> u64
     requires { IsAttached (D.state dev.now) }
     ensures { result ≡ min (D.state dev.now).blocks MAX_META_BLOCKS }
 {

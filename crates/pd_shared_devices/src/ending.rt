@@ -1,6 +1,6 @@
 //! A leaf, a piece and a tree that are over.
 
-ghost use Rattle.std.specs.Prelude.{◌≡◌, ℕ, ◌+◌, ◌<◌, ◌≤◌, ◌^◌, List, [], ◌∷◌, length, OnOk, IfOk, slice_get};
+ghost use Rattle.std.specs.Prelude.{◌≡◌, ℕ, ◌+◌, ◌<◌, ◌≤◌, ◌^◌, List, [], ◌∷◌, OnOk, IfOk, slice_get};
 ghost use Rattle.std.specs.Option.{unwrap_or};
 ghost use Rattle.pd_kinds.specs.Node.{Entry, leaf_block};
 ghost use Rattle.pd_image.specs.Device.{IsWritable};
@@ -8,7 +8,7 @@ ghost use Rattle.pd_draft.specs.Closed.{IsClosed, StaysClosed};
 ghost use Rattle.pd_draft.specs.Placed.{DraftState, Wrote};
 ghost use Rattle.pd_draft.specs.DraftState.{draft_state};
 ghost use Rattle.pd_spells.specs.Need.{nodes_for};
-ghost use Rattle.pd_spells.specs.ThinText.{Run, least_of};
+ghost use Rattle.pd_spells.specs.ThinText.{least_of};
 ghost use Rattle.pd_laid.specs.LaidThin.{device_root};
 ghost use Rattle.pd_laid.specs.Shape.{ShapeDevice, shared};
 ghost use Rattle.pd_laid.specs.Tree.{first_key};

@@ -1,6 +1,6 @@
 //! The device whose tree is being written.
 
-ghost use Rattle.std.specs.Prelude.{◌≡◌, ℕ, ◌+◌, ◌<◌, ◌≤◌, ◌^◌, List, [], ◌∷◌, length, true, OnOk, IfOk, IfErr, slice_get};
+ghost use Rattle.std.specs.Prelude.{◌≡◌, ℕ, ◌+◌, ◌<◌, ◌≤◌, ◌^◌, List, [], ◌∷◌, length, OnOk, IfOk, IfErr, slice_get};
 ghost use Rattle.std.specs.Option.{unwrap_or};
 ghost use Rattle.pd_kinds.specs.Node.{Entry, leaf_block};
 ghost use Rattle.pd_image.specs.Device.{IsWritable};

@@ -2,7 +2,7 @@
 //! leaves they are spread.
 
 ghost use Rattle.std.specs.Prelude.{◌≡◌, ◌+◌, ◌-◌, ◌<◌, ◌≤◌, ◌^◌, ◌++◌, List, [], ◌∷◌, length, OnOk, IfErr};
-ghost use Rattle.pd_kinds.specs.Node.{Entry, leaf_block};
+ghost use Rattle.pd_kinds.specs.Node.{leaf_block};
 ghost use Rattle.pd_kinds.specs.Value.{mapping_code};
 ghost use Rattle.pd_image.specs.Device.{IsWritable};
 ghost use Rattle.pd_draft.specs.Closed.{IsClosed, StaysClosed};

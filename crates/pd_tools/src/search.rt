@@ -21,7 +21,8 @@ use crate::repair::ended_of;
 use crate::stop::Stop;
 use crate::task::Task;
 use pd_image::Device;
-use pd_kinds::{CheckFault, MAX_META_BLOCKS, ThinSuper};
+use pd_kept::usable_blocks;
+use pd_kinds::{CheckFault, ThinSuper};
 use pd_lines::LineBuffer;
 use pd_repair::{RepairFault, repair_from, repair_shared_from};
 use pd_scan::{Roots, find_roots, found_pools_are_saved_whole, lost_super};
@@ -137,14 +138,6 @@ pub(crate) fn repair_lost<A: Device, B: Device>(
     } else {
         repair_from(alloc, input, output, lost)
     }
-}
-
-/// How many blocks of a device can be metadata: all, but no more than `MAX_META_BLOCKS`.
-pub(crate) fn usable_blocks<A: Device>(input: &A) -> u64
-    requires { IsAttached (A.state input.now) }
-    ensures { result ≡ min (A.state input.now).blocks MAX_META_BLOCKS }
-{
-    input.blocks().min(MAX_META_BLOCKS)
 }
 
 /// The line of roots.

@@ -1,7 +1,6 @@
 //! How a plan is made.
 
-ghost use Rattle.std.specs.Prelude.{◌≡◌, ◌+◌, ◌<◌, ◌≤◌, ◌↔◌, IsTrue, ℕ, List, [], IfOk, IfSome, length};
-ghost use Rattle.pd_kinds.specs.CacheFormat.{cache_fields};
+ghost use Rattle.std.specs.Prelude.{◌≡◌, ◌+◌, ◌<◌, ◌≤◌, ◌↔◌, IfOk, IfSome};
 ghost use Rattle.pd_kinds.specs.Graph.{block_at};
 ghost use Rattle.pd_kinds.specs.Limits.{room_of};
 ghost use Rattle.pd_image.specs.Device.{IsAttached, OnlyReads};

@@ -4,7 +4,6 @@ ghost use Rattle.std.specs.Prelude.{◌≡◌, ◌+◌, ◌-◌, ◌*◌, ◌≤
 ghost use Rattle.pd_kinds.specs.Crash.{LeavesNow, LeavesOnly};
 ghost use Rattle.pd_image.specs.Device.{IsAttached, IsWritable, KeepsPlace, OnlyReads};
 ghost use Rattle.pd_answers.specs.CachedView.{overlaid, stands_for};
-ghost use Rattle.pd_answers.specs.Writebacks.{KeepsOthers};
 ghost use Rattle.pd_writeback.specs.Copied.{IsCopied, IsLeftAsBut};
 ghost use Rattle.pd_writeback.specs.Failing.{CountsCopies};
 ghost use Rattle.pd_writeback.specs.Hot.{cached_of_hot, cached_all};

@@ -41,7 +41,7 @@ pub struct Plan {
 }
 
 impl Plan {
-    ghost use Rattle.std.specs.Prelude.{◌≡◌, ◌≢◌, ◌+◌, ◌<◌, ◌≤◌, ℕ, List, [], Some, IfOk, IfErr, IfSome, OnOk, MatchResult, length, is_some};
+    ghost use Rattle.std.specs.Prelude.{◌≡◌, ◌≢◌, ◌+◌, ◌<◌, ◌≤◌, ℕ, List, [], Some, IfOk, IfSome, OnOk, length, is_some};
     ghost use Rattle.std.specs.List.Sorted.{IsPermutation};
     ghost use Rattle.pd_kinds.specs.declared.kind.Kind.TheVariants.{Cache};
     ghost use Rattle.pd_kinds.specs.declared.kind.Stage.TheVariants.{Whole};
