@@ -43,6 +43,11 @@ pub(crate) const SECOND: &[&str] = &[
 pub(crate) const TWO_MAPPED: &str =
     "cache 1\ncache 00000000-0000-0000-0000-000000000000 128 510 1 736d7100000000000000000000000000 2 0 0 4\nmap 0 7 0 5\nmap 509 8 1 6\nend\n";
 
+/// A cache of 40000 blocks with hints, of which so few are mapped that most blocks of its arrays have none. The last mapping of
+/// one array block and the first of the next are among them, and those where a block of hints and one of dirty bits ends.
+const FAR_APART: &str =
+    "cache 1\ncache 00000000-0000-0000-0000-000000000000 128 40000 1 736d7100000000000000000000000000 2 0 0 4\nmap 0 1 0 11\nmap 508 2 1 12\nmap 509 3 0 13\nmap 1017 4 1 14\nmap 1018 5 0 15\nmap 2099 6 1 16\nmap 32575 7 0 17\nmap 32576 8 1 18\nmap 39999 9 1 19\nend\n";
+
 /// A cache without blocks, which wasn't shut down cleanly.
 pub(crate) const EMPTY: &str =
     "cache 1\ncache 00000000-0000-0000-0000-000000000000 128 0 0 00000000000000000000000000000000 0 0 0 0\nend\n";
@@ -212,17 +217,18 @@ fn rules_that_caches_break(rt: HostRuntime) -> Result<(), Fail> {
     Ok(())
 }
 
-/// Restores a text, and checks and dumps the cache.
-fn expect_same(alloc: Global, words: &[&str], text: &str) -> Result<(), Fail> {
-    let image = made(alloc, words, text, 16)?;
+/// Restores a text onto so many blocks, and checks and dumps the cache.
+fn expect_same(alloc: Global, words: &[&str], text: &str, blocks: usize) -> Result<(), Fail> {
+    let image = made(alloc, words, text, blocks)?;
     expect_dumped(alloc, ("cache_check", "cache_dump"), image.as_slice(), text)
 }
 
 #[test]
 fn restored_caches_are_clean_and_dumped_as_they_were(rt: HostRuntime) -> Result<(), Fail> {
-    for text in [TWO_MAPPED, EMPTY] {
-        expect_same(rt.alloc(), FIRST, text)?;
-        expect_same(rt.alloc(), SECOND, text)?;
+    for words in [FIRST, SECOND] {
+        expect_same(rt.alloc(), words, TWO_MAPPED, 16)?;
+        expect_same(rt.alloc(), words, EMPTY, 16)?;
+        expect_same(rt.alloc(), words, FAR_APART, 140)?;
     }
     Ok(())
 }

@@ -60,6 +60,29 @@ fn a_dump_is_restored_to_a_target_that_dumps_the_same(rt: HostRuntime) -> Result
     Ok(())
 }
 
+/// Blocks of three parts, as a dump takes 1048576 at once: a run goes over the end of the first, and one ends with the second.
+const PARTS: &str =
+    "era 1\nera 00000000-0000-0000-0000-000000000000 128 2097200 9\nrun 0 1000000 3\nrun 1000000 100000 5\nrun 1100000 997152 7\nrun 2097152 48 2\nend\n";
+
+/// What of these blocks was written since an era.
+const PARTS_SINCE: &[(&str, &str)] = &[
+    ("5", "written 1000000 1097152\n"),
+    ("3", "written 0 2097152\n"),
+    ("2", "written 0 2097200\n"),
+    ("7", "written 1100000 997152\n"),
+];
+
+#[test]
+fn runs_go_over_the_ends_of_parts(rt: HostRuntime) -> Result<(), Fail> {
+    let image = made(rt.alloc(), ERA, PARTS, 2100)?;
+    expect_dumped(rt.alloc(), TOOLS, image.as_slice(), PARTS)?;
+    for (era, lines) in PARTS_SINCE {
+        let words = ["era_invalidate", "--written-since", *era, "image"];
+        expect(rt.alloc(), &words, image.as_slice(), 0, lines)?;
+    }
+    Ok(())
+}
+
 /// How a block of that target is changed.
 #[derive(Clone, Copy)]
 enum Change {

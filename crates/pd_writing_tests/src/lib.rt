@@ -9,6 +9,8 @@ mod kept_tests;
 #[cfg(test)]
 mod lost;
 #[cfg(test)]
+mod made_up_tests;
+#[cfg(test)]
 mod named_tests;
 #[cfg(test)]
 mod repair_tests;
