@@ -19,6 +19,8 @@ mod crc_tests;
 #[cfg(test)]
 mod draft_tests;
 #[cfg(test)]
+mod era_list_tests;
+#[cfg(test)]
 mod image_tests;
 #[cfg(test)]
 mod map_tests;
