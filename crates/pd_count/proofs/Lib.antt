@@ -3,3 +3,4 @@ pub mod DigitLemmas
 pub mod EntryLemmas
 pub mod FormLemmas
 pub mod GroupLemmas
+pub mod PlaceLemmas

@@ -1,6 +1,6 @@
 //! The numbers of the blocks that one bitmap covers.
 
-ghost use Rattle.std.specs.Prelude.{◌≡◌, ℕ, ◌+◌, ◌-◌, ◌^◌, ◌<◌, ◌≤◌, ◌==◌, [], true, false, take, length, slice_index, slice_index_or, IfOk, OnOk, OnErr, MatchOption};
+ghost use Rattle.std.specs.Prelude.{◌≡◌, ℕ, ◌+◌, ◌-◌, ◌^◌, ◌<◌, ◌≤◌, ◌==◌, [], true, false, take, length, slice_index, IfOk, OnOk, OnErr, MatchOption};
 ghost use Rattle.std.specs.List.{count_by};
 
 use crate::few::{self, Entry};
@@ -11,6 +11,10 @@ use std::marker::Model;
 /// How many places may stand in a list. The digits of all places are made when one more number is put, so that they take
 /// less than 64 bytes for each time that a place was counted.
 const FEW_PLACES: usize = 256;
+
+/// How many places the list has room for at first. With what `malloc` needs that takes 32 bytes, which is the least that it
+/// gives.
+const FIRST_PLACES: usize = 3;
 
 /// How the numbers are kept.
 #[derive(Drop)]
@@ -24,7 +28,7 @@ enum Form {
 /// 16320 numbers, or nothing where each of them is 0.
 ///
 /// A chunk takes 32 bytes. While at most 256 places have a number it takes 8 bytes more for each of them, in a list that
-/// has room for 4 and doubles as it grows. From then on it takes a byte more for each of the 16320 places, two where a
+/// has room for 3 and doubles as it grows. From then on it takes a byte more for each of the 16320 places, two where a
 /// number above 255 was put, and four where one above 65535 was put.
 #[derive(Drop)]
 pub struct Chunk {
@@ -52,6 +56,17 @@ impl Chunk {
         Chunk {
             form: Form::Few(Vec::new(alloc)),
         }
+    }
+
+    /// A chunk that is to be made. It takes the memory of a short list of places.
+    ///
+    /// Fails with `AllocError` where that memory wasn't found.
+    pub(crate) fn with_room(alloc: Global) -> Result<Chunk, AllocError>
+        ensures { IfOk result (λ chunk. chunk ≡ []) }
+    {
+        Ok(Chunk {
+            form: Form::Few(Vec::with_capacity(alloc, FIRST_PLACES)?),
+        })
     }
 
     /// Whether a number was put.
@@ -205,18 +220,4 @@ impl Chunk {
             Form::Dense(digits) => dense::copy(digits, numbers),
         }
     }
-}
-
-/// So many chunks that aren't made. It takes the memory of their list.
-///
-/// Fails with `AllocError` where that memory wasn't found.
-pub(crate) fn absent_chunks(alloc: Global, places: usize) -> Result<Vec<Chunk>, AllocError>
-    ensures len { IfOk result (λ chunks. length chunks.items ≡ places) }
-    ensures absent { IfOk result (λ chunks. (i : ℕ) → slice_index_or chunks.items i [] ≡ []) }
-{
-    let mut chunks = Vec::with_capacity(alloc, places)?;
-    for _ in 0..places {
-        chunks.push(Chunk::absent(alloc))?;
-    }
-    Ok(chunks)
 }

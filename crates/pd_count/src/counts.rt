@@ -10,11 +10,10 @@ use std::marker::Model;
 
 /// How often each of so many blocks was counted.
 ///
-/// The counts stand in chunks of 16320, and the chunks in groups of 64. Each group takes 24 bytes: that is 25 MB for 2^40
-/// blocks, before any is counted. A group is made when a block in it is first counted. From then on it takes 2048 bytes
-/// more, which are 32 for each of its chunks. A chunk takes more where a block in it was counted, as `Chunk` tells: at
-/// most 64 bytes for each time that a block was counted, and a byte for each block where blocks lie close and none was
-/// counted more than 255 times.
+/// The counts stand in chunks of 16320, and the chunks in groups of 64. Each group takes 32 bytes: that is 34 MB for 2^40
+/// blocks, before any is counted. A chunk is made when a block in it is first counted. From then on it takes 32 bytes in
+/// its group, and more as `Chunk` tells: at most 64 bytes in all for each block that was counted, and a byte for each
+/// block where blocks lie close and none was counted more than 255 times.
 #[derive(Drop)]
 pub struct Counts {
     size: u64,
@@ -51,8 +50,8 @@ impl Counts {
         })
     }
 
-    /// Counts the block once more. It takes memory only where the group of the block isn't made, or where its chunk has no
-    /// room for its count.
+    /// Counts the block once more. It takes memory only where the chunk of the block isn't made, or has no room for its
+    /// count.
     ///
     /// Fails with `AllocError` where that memory wasn't found; then all is as before.
     pub fn add(&mut self, b: u64) -> Result<(), AllocError>

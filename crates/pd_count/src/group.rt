@@ -1,56 +1,78 @@
-//! A group of chunks, which is made when a block in one of them is first counted.
+//! A group of chunks, each of which is made when a block in it is first counted.
 
-ghost use Rattle.std.specs.Prelude.{◌≡◌, ℕ, ◌+◌, ◌-◌, ◌^◌, ◌<◌, [], length, slice_index, slice_index_or, IfOk, OnOk, OnErr, MatchOption};
+ghost use Rattle.std.specs.Prelude.{◌≡◌, ℕ, ◌+◌, ◌-◌, ◌^◌, ◌<◌, ◌≤◌, ◌==◌, [], length, slice_index, slice_index_or, IfOk, OnOk, OnErr, MatchOption};
+ghost use Rattle.std.specs.Int.{bit_at};
+ghost use Rattle.std.specs.List.{insert};
+ghost use Rattle.pd_count.specs.Groups.{made_before, no_group};
 
-use crate::chunk::{Chunk, absent_chunks};
+use crate::chunk::Chunk;
 use std::alloc::{AllocError, Global};
 use std::marker::Model;
 
 /// How many chunks a group has.
 pub(crate) const GROUP_CHUNKS: usize = 64;
 
-/// 64 chunks, or none yet where nothing in them was counted.
+/// 64 chunks, each of which is made when a number is first put in it.
 ///
-/// A group takes 24 bytes. Once it is made it takes 2048 bytes more for the list of its chunks, and what each chunk has
-/// beside its 32 bytes.
+/// A group takes 32 bytes. Each chunk that is made takes 32 bytes more in the list of them, which is as long as they are
+/// many, and what it has beside that.
 #[derive(Drop)]
 pub(crate) struct Group {
+    /// Bit `i` tells whether chunk `i` is made.
+    made: u64,
+    /// The chunks that are made, in their order.
     chunks: Vec<Chunk>,
 }
 
 impl Model for Group {
-    ghost use Rattle.std.specs.Prelude.{List, ℕ};
-    ghost use Rattle.pd_count.specs.Groups.{IsGroup};
+    ghost use Rattle.std.specs.Prelude.{◌≡◌, length};
+    ghost use Rattle.pd_count.specs.Groups.{Grouped, made_before};
 
-    ghost Value = { List (List ℕ) };
+    ghost Value = { Grouped };
 
-    ghost view = { λ g. g.chunks.items };
+    ghost view = { λ g. record { made = g.made; chunks = g.chunks.items } };
 
-    ghost invariant = { λ g. IsGroup g.chunks.items };
+    ghost invariant = { λ g. length g.chunks.items ≡ made_before g.made 64 };
 }
 
 impl Group {
-    ghost use Rattle.pd_count.specs.Groups.{PutsInGroup};
+    ghost use Rattle.pd_count.specs.Groups.{IsPlace, PutsInGroup, chunk_of, no_group};
 
-    /// A group without chunks. It takes no memory.
+    /// A group of which no chunk is made. It takes no memory.
     fn absent(alloc: Global) -> Group
-        ensures { result ≡ [] }
+        ensures { result ≡ no_group }
     {
         Group {
+            made: 0,
             chunks: Vec::new(alloc),
         }
     }
 
-    /// Chunk `i` of the group, or `None` where the group isn't made. It takes no memory.
-    pub(crate) fn chunk(&self, i: usize) -> Option<&Chunk>
-        ensures { MatchOption result (slice_index_or self.now i [] ≡ []) (λ chunk. chunk.now ≡ slice_index_or self.now i []) }
+    /// Where chunk `i` stands among those that are made, or `None` where it isn't made.
+    fn place(&self, i: usize) -> Option<usize>
+        requires { i < 64 }
+        ensures { MatchOption result (bit_at self.now.made i ≡ 0) (IsPlace self.now.made (length self.now.chunks) i) }
     {
-        self.chunks.get(i)
+        if is_set(self.made, i) {
+            Some(set_below(self.made, i))
+        } else {
+            None
+        }
     }
 
-    /// The number at a place of chunk `i`, which is 0 where the group isn't made. It takes no memory.
+    /// Chunk `i` of the group, or `None` where it isn't made. It takes no memory.
+    pub(crate) fn chunk(&self, i: usize) -> Option<&Chunk>
+        requires { i < 64 }
+        ensures { MatchOption result (chunk_of self.now i ≡ []) (λ chunk. chunk.now ≡ chunk_of self.now i) }
+    {
+        let place = self.place(i)?;
+        Some(&self.chunks[place])
+    }
+
+    /// The number at a place of chunk `i`, which is 0 where the chunk isn't made. It takes no memory.
     pub(crate) fn get(&self, i: usize, at: usize) -> u32
-        ensures { result ≡ slice_index (slice_index_or self.now i []) at }
+        requires { i < 64 }
+        ensures { result ≡ slice_index (chunk_of self.now i) at }
     {
         match self.chunk(i) {
             Some(chunk) => chunk.get(at),
@@ -58,23 +80,23 @@ impl Group {
         }
     }
 
-    /// Raises the number at a place of chunk `i` by one, and makes the group where it isn't made. Want of memory leaves
+    /// Raises the number at a place of chunk `i` by one, and makes the chunk where it isn't made. Want of memory leaves
     /// all as before.
     pub(crate) fn add(&mut self, i: usize, at: usize) -> Result<(), AllocError>
         requires chunk { i < 64 }
         requires place { at < 16320 }
-        requires few { slice_index (slice_index_or self.old i []) at < 2 ^ 32 - 1 }
-        ensures added { OnOk result (PutsInGroup i at (slice_index (slice_index_or self.old i []) at + 1) self.old self.new) }
+        requires few { slice_index (chunk_of self.old i) at < 2 ^ 32 - 1 }
+        ensures added { OnOk result (PutsInGroup i at (slice_index (chunk_of self.old i) at + 1) self.old self.new) }
         ensures err { OnErr result (self.new ≡ self.old) }
     {
-        if self.chunks.is_empty() {
+        let Some(place) = self.place(i) else {
             return self.begin(i, at, 1);
-        }
-        self.chunks[i].add(at)?;
+        };
+        self.chunks[place].add(at)?;
         Ok(())
     }
 
-    /// Puts the number at a place of chunk `i`, and makes the group where it isn't made. Want of memory leaves all as
+    /// Puts the number at a place of chunk `i`, and makes the chunk where it isn't made. Want of memory leaves all as
     /// before.
     pub(crate) fn set(&mut self, i: usize, at: usize, number: u32) -> Result<(), AllocError>
         requires chunk { i < 64 }
@@ -82,27 +104,60 @@ impl Group {
         ensures put { OnOk result (PutsInGroup i at number self.old self.new) }
         ensures err { OnErr result (self.new ≡ self.old) }
     {
-        if self.chunks.is_empty() {
+        let Some(place) = self.place(i) else {
             return self.begin(i, at, number);
-        }
-        self.chunks[i].set(at, number)?;
+        };
+        self.chunks[place].set(at, number)?;
         Ok(())
     }
 
-    /// Makes the group, with the number at a place of chunk `i`. Want of memory leaves all as before.
+    /// Makes chunk `i`, with the number at a place of it. Want of memory leaves all as before.
     #[inline(never)]
     fn begin(&mut self, i: usize, at: usize, number: u32) -> Result<(), AllocError>
-        requires absent { self.old ≡ [] }
+        requires absent { bit_at self.old.made i ≡ 0 }
         requires chunk { i < 64 }
         requires place { at < 16320 }
         ensures put { OnOk result (PutsInGroup i at number self.old self.new) }
         ensures err { OnErr result (self.new ≡ self.old) }
     {
-        let mut made = absent_chunks(*self.chunks.allocator(), GROUP_CHUNKS)?;
-        made[i].set(at, number)?;
-        self.chunks = made;
+        let mut chunk = Chunk::with_room(*self.chunks.allocator())?;
+        chunk.set(at, number)?;
+        insert_exactly(&mut self.chunks, set_below(self.made, i), chunk)?;
+        self.made |= 1 << i;
         Ok(())
     }
+}
+
+/// Whether bit `i` is set.
+fn is_set(bits: u64, i: usize) -> bool
+    requires { i < 64 }
+    ensures { result ≡ (bit_at bits i == 1) }
+{
+    (bits >> i) % 2 == 1
+}
+
+/// How many bits below bit `i` are set. Mostly all are.
+fn set_below(bits: u64, i: usize) -> usize
+    requires { i < 64 }
+    ensures { result ≡ made_before bits i }
+{
+    let all = (1 << i) - 1;
+    let set = bits & all;
+    if set == all {
+        return i;
+    }
+    set.count_ones() as usize
+}
+
+/// Inserts a chunk, in a list that takes no more memory than its chunks. Want of memory leaves the list as before.
+fn insert_exactly(chunks: &mut Vec<Chunk>, place: usize, chunk: Chunk) -> Result<(), AllocError>
+    requires { place ≤ length chunks.old.items }
+    ensures ok { OnOk result (chunks.new.items ≡ insert chunks.old.items place chunk) }
+    ensures err { OnErr result (chunks.new.items ≡ chunks.old.items) }
+{
+    chunks.reserve_exact(1)?;
+    chunks.insert(place, chunk)?;
+    Ok(())
 }
 
 /// So many groups that aren't made. It takes the memory of their list.
@@ -110,7 +165,7 @@ impl Group {
 /// Fails with `AllocError` where that memory wasn't found.
 pub(crate) fn absent_groups(alloc: Global, places: usize) -> Result<Vec<Group>, AllocError>
     ensures len { IfOk result (λ groups. length groups.items ≡ places) }
-    ensures absent { IfOk result (λ groups. (i : ℕ) → slice_index_or groups.items i [] ≡ []) }
+    ensures absent { IfOk result (λ groups. (i : ℕ) → slice_index_or groups.items i no_group ≡ no_group) }
 {
     let mut groups = Vec::with_capacity(alloc, places)?;
     for _ in 0..places {

@@ -61,7 +61,8 @@ type CountRow = (u64, u64, u64, u32, bool);
 /// So many blocks the tables of these rows have: two groups of chunks, and most of a third one.
 const BLOCKS: u64 = 3000000;
 
-/// The forms of a chunk, its first changes, and blocks on both sides of a chunk's and a group's end.
+/// The forms of a chunk, its first changes, chunks with others between them that aren't made, chunks that are made from the last
+/// to the first, and blocks on both sides of a chunk's and a group's end.
 const COUNTINGS: &[CountRow] = &[
     (3, 1, 1, 255, false),
     (3, 1, 1, 256, false),
@@ -73,6 +74,8 @@ const COUNTINGS: &[CountRow] = &[
     (16319, 1, 2, 3, false),
     (16200, 1, 600, 1, true),
     (7, 16320, 5, 4, false),
+    (16327, 32640, 60, 2, false),
+    (9, 16320, 130, 1, true),
     (1044479, 1, 2, 3, false),
     (7, 1044480, 3, 4, true),
     (2999999, 1, 1, 2, false),

@@ -1,4 +1,4 @@
-use Rattle.std.proofs.Common.{◌∙◌, ap, ◌/◌, ◌<◌, arith, length, slice_set, length-set}
+use Rattle.std.proofs.Common.{◌∙◌, ap, ◌/◌, arith, slice_set, length-set}
 use Rattle.pd_count.specs.Counted.{Counted, PutsNumber}
 use Rattle.pd_count.specs.Groups.{chunks_in}
 use Rattle.pd_count.proofs.CountLemmas.{none_past}

@@ -1,0 +1,22 @@
+use Rattle.std.proofs.Common.{◌∙◌, ℕ, List, length, OnOk, sym, ap, subst, arith, get_or}
+use Rattle.pd_count.specs.Groups.{Grouped, IsPlace, PutsInGroup, chunk_of}
+use Rattle.pd_count.proofs.PlaceLemmas.{adds_in_made, chunk_read, first_count}
+use Rattle.pd_count.proofs.group.Group.add.Goals as goal
+
+pub returns-in_default-clause-added : goal.returns-in_default-clause-added
+returns-in_default-clause-added c =
+    subst (λ (n : ℕ). OnOk c.begin.result (PutsInGroup c.args.i c.args.at n c.args.self.now c.begin.new.self)) (first_count c.args.self.now c.args.i c.args.at c.in_default.ensures)
+    c.begin.ensures.put
+
+pub add-requires-clause-few : goal.add-requires-clause-few
+add-requires-clause-few c =
+    let stands = subst (λ (g : Grouped). IsPlace g.made (length g.chunks) c.args.i c.in-Some.place) (sym c.self.view_is) c.in-Some.ensures in
+    let read = chunk_read c.self.inside.made c.self.inside.chunks.items c.args.i c.in-Some.place c.index_mut.result.now stands c.index_mut.ensures.value in
+    omega (arith, c.requires.few, ap (λ (ns : List ℕ). get_or ns c.args.at 0) (sym read ∙ ap (λ (g : Grouped). chunk_of g c.args.i) c.self.view_is))
+
+pub returns-clause-added : goal.returns-clause-added
+returns-clause-added c =
+    let stands = subst (λ (g : Grouped). IsPlace g.made (length g.chunks) c.args.i c.in-Some.place) (sym c.self.view_is) c.in-Some.ensures in
+    rw (← c.self.view_is)
+    (adds_in_made c.self.inside.made c.self.inside.chunks.items c.args.i c.args.at c.in-Some.place c.index_mut.result.now c.add.new.self stands
+    c.index_mut.ensures.value c.in_ok-add.ensures.added)
