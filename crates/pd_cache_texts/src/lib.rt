@@ -5,7 +5,6 @@
 //! none repeats looks for it (`cache_text_stops_where_an_origin_repeats`).
 #![tactic(auto)]
 
-mod kind;
 mod laws;
 mod line;
 mod print;

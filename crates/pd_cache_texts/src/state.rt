@@ -2,21 +2,26 @@
 
 ghost use Rattle.std.specs.Prelude.{◌≡◌, ◌≤◌, List, ◌∷◌, length, IfOk, true, false};
 ghost use Rattle.pd_grammar.specs.Texts.{tested};
-ghost use Rattle.pd_grammar.specs.Tables.{may_stand};
 ghost use Rattle.pd_spells.specs.CacheText.{Line, cache_kind, map_kind, end_kind, single_tests, flag_number};
 ghost use Rattle.pd_texts.specs.Seen.{seen_by};
 ghost use Rattle.pd_texts.specs.Words.{made_of};
-ghost use Rattle.pd_cache_texts.specs.CacheKind.{kind_meant};
 ghost use Rattle.pd_cache_texts.specs.CacheLine.{cache_meant};
 
-use crate::kind::CacheKind;
 use crate::line::CacheLine;
-use pd_grammar::TextCause;
-use pd_texts::{Stage, TextReader, TextState, cut_word, read_values};
+use pd_grammar::{Field, TextCause};
+use pd_texts::{Names, Numbers, Stage, TextLines, TextReader, TextState};
 use std::alloc::{AllocError, Global};
 
 /// The text of a cache, read line by line. It doesn't look for an origin that an earlier line has.
 pub type CacheText = TextReader<CacheState>;
+
+/// The kinds of lines after the first one.
+#[derive(Clone, Copy)]
+pub enum CacheKind {
+    Cache,
+    Map,
+    End,
+}
 
 /// What the lines so far of a cache's text say of the next one.
 #[derive(Drop)]
@@ -30,18 +35,29 @@ pub struct CacheState {
     least_block: u64,
 }
 
+impl TextLines for CacheState {
+    type Line = CacheLine;
+}
+
 impl TextState for CacheState {
     ghost use Rattle.std.specs.Prelude.{refl};
-    ghost use Rattle.pd_spells.specs.CacheText.{Line, first_line, cache_single};
+    ghost use Rattle.pd_spells.specs.CacheText.{Line, first_line, cache_table, cache_single};
+    ghost use Rattle.pd_cache_texts.specs.CacheKind.{kind_meant};
     ghost use Rattle.pd_cache_texts.specs.CacheLine.{cache_meant};
     ghost use Rattle.pd_cache_texts.specs.CacheState.{CacheStands};
     ghost use Rattle.pd_cache_texts.specs.CacheEnds.{cache_header, cache_ends};
 
-    type Line = CacheLine;
+    type Kind = CacheKind;
 
     ghost Meant = { Line };
 
     ghost format = { cache_single };
+
+    ghost table = { cache_table };
+
+    ghost by_table = { refl };
+
+    ghost kind_meant = { kind_meant };
 
     ghost first_line = { λ _. first_line };
 
@@ -78,19 +94,56 @@ impl TextState for CacheState {
         Ok(())
     }
 
-    fn read(&mut self, text: &[u8]) -> Result<Option<CacheLine>, TextCause> {
-        let (word, rest) = cut_word(text);
-        let kind = match CacheKind::named(word) {
-            Some(kind) => kind,
-            None => return Err(TextCause::Word),
-        };
-        if !self.may_stand(kind) {
-            return Err(TextCause::Word);
+    #[tactic(auto, unfolding(pd_grammar::specs::Tables::kind_named))]
+    fn named(word: &[u8]) -> Option<CacheKind> {
+        if word == b"map".as_slice() {
+            Some(CacheKind::Map)
+        } else if word == b"cache".as_slice() {
+            Some(CacheKind::Cache)
+        } else if word == b"end".as_slice() {
+            Some(CacheKind::End)
+        } else {
+            None
         }
-        let mut names = [[0; 16]; 9];
-        let mut numbers = [0; 9];
-        read_values(kind.fields(), rest, &mut names, &mut numbers)?;
-        self.take(kind, &names, &numbers)
+    }
+
+    fn fields(kind: CacheKind) -> &'static [Field] {
+        match kind {
+            CacheKind::Cache => &[
+                Field::Uuid,
+                Field::Number,
+                Field::Number,
+                Field::Number,
+                Field::Policy,
+                Field::Number,
+                Field::Number,
+                Field::Number,
+                Field::Number,
+            ],
+            CacheKind::Map => &[Field::Number; 4],
+            CacheKind::End => &[],
+        }
+    }
+
+    #[tactic(auto, using(pd_texts::proofs::StageLemmas::second_stage, pd_texts::proofs::StageLemmas::body_stage))]
+    fn may_stand(&self, kind: CacheKind) -> bool {
+        match kind {
+            CacheKind::Cache => self.stage.is_second(),
+            CacheKind::Map | CacheKind::End => self.stage.is_body(),
+        }
+    }
+
+    fn take(
+        &mut self,
+        kind: CacheKind,
+        names: &Names,
+        numbers: &Numbers,
+    ) -> Result<Option<CacheLine>, TextCause> {
+        match kind {
+            CacheKind::Map => self.take_map(names, numbers),
+            CacheKind::Cache => self.take_cache(names, numbers),
+            CacheKind::End => self.take_end(names, numbers),
+        }
     }
 
     ghost header = { cache_header };
@@ -103,43 +156,9 @@ impl TextState for CacheState {
 impl CacheState {
     ghost use Rattle.pd_cache_texts.specs.CacheState.{CacheStands};
 
-    /// Whether such a line may come next.
-    #[tactic(auto, using(pd_texts::proofs::StageLemmas::second_stage, pd_texts::proofs::StageLemmas::body_stage))]
-    fn may_stand(&self, kind: CacheKind) -> bool
-        ensures { (before : List Line) → CacheStands self.now before → result ≡ may_stand (kind_meant kind).place before }
-    {
-        match kind {
-            CacheKind::Cache => self.stage.is_second(),
-            CacheKind::Map | CacheKind::End => self.stage.is_body(),
-        }
-    }
-
-    /// Takes a line of these values, or says which test it fails.
-    fn take(
-        &mut self,
-        kind: CacheKind,
-        names: &[[u8; 16]; 9],
-        numbers: &[u64; 9],
-    ) -> Result<Option<CacheLine>, TextCause>
-        ensures line { (before : List Line) → CacheStands self.old before → 1 ≤ length before
-            → seen_by cache_meant result ≡ tested single_tests before (made_of (kind_meant kind) names.now numbers.now) }
-        ensures after { (before : List Line) → CacheStands self.old before → 1 ≤ length before
-            → IfOk result (λ taken. CacheStands self.new (cache_meant taken ∷ before)) }
-    {
-        match kind {
-            CacheKind::Map => self.take_map(names, numbers),
-            CacheKind::Cache => self.take_cache(names, numbers),
-            CacheKind::End => self.take_end(names, numbers),
-        }
-    }
-
     /// Takes a map line of these values.
     #[tactic(auto, unfolding(pd_grammar::specs::Texts::tested))]
-    fn take_map(
-        &mut self,
-        names: &[[u8; 16]; 9],
-        numbers: &[u64; 9],
-    ) -> Result<Option<CacheLine>, TextCause>
+    fn take_map(&mut self, names: &Names, numbers: &Numbers) -> Result<Option<CacheLine>, TextCause>
         ensures line { (before : List Line) → CacheStands self.old before → 1 ≤ length before
             → seen_by cache_meant result ≡ tested single_tests before (made_of map_kind names.now numbers.now) }
         ensures after { (before : List Line) → CacheStands self.old before → 1 ≤ length before
@@ -172,8 +191,8 @@ impl CacheState {
     #[tactic(auto, unfolding(pd_grammar::specs::Texts::tested))]
     fn take_cache(
         &mut self,
-        names: &[[u8; 16]; 9],
-        numbers: &[u64; 9],
+        names: &Names,
+        numbers: &Numbers,
     ) -> Result<Option<CacheLine>, TextCause>
         ensures line { (before : List Line) → CacheStands self.old before → 1 ≤ length before
             → seen_by cache_meant result ≡ tested single_tests before (made_of cache_kind names.now numbers.now) }
@@ -215,11 +234,7 @@ impl CacheState {
 
     /// Takes the last line.
     #[tactic(auto, unfolding(pd_grammar::specs::Texts::tested))]
-    fn take_end(
-        &mut self,
-        names: &[[u8; 16]; 9],
-        numbers: &[u64; 9],
-    ) -> Result<Option<CacheLine>, TextCause>
+    fn take_end(&mut self, names: &Names, numbers: &Numbers) -> Result<Option<CacheLine>, TextCause>
         ensures line { (before : List Line) → CacheStands self.old before → 1 ≤ length before
             → seen_by cache_meant result ≡ tested single_tests before (made_of end_kind names.now numbers.now) }
         ensures after { (before : List Line) → CacheStands self.old before → 1 ≤ length before

@@ -1,8 +1,8 @@
 -- The kinds of lines of an era target's text.
 use Rattle.pd_grammar.specs.Tables.{LineKind}
 use Rattle.pd_spells.specs.EraText.{Line, era_kind, run_kind, end_kind}
-use Rattle.pd_era_texts.specs.declared.kind.EraKind.{EraKind}
-use Rattle.pd_era_texts.specs.declared.kind.EraKind.TheVariants as k
+use Rattle.pd_era_texts.specs.declared.state.EraKind.{EraKind}
+use Rattle.pd_era_texts.specs.declared.state.EraKind.TheVariants as k
 
 -- the kind of a line
 abbrev pub kind_meant : EraKind → LineKind Line

@@ -3,7 +3,6 @@
 //! It is the reader of any text (`TextReader`) at what the lines so far of an era target's text say of the next one.
 #![tactic(auto)]
 
-mod kind;
 mod laws;
 mod line;
 mod print;

@@ -2,21 +2,26 @@
 
 ghost use Rattle.std.specs.Prelude.{◌≡◌, ◌≤◌, List, ◌∷◌, length, IfOk, true, false};
 ghost use Rattle.pd_grammar.specs.Texts.{tested};
-ghost use Rattle.pd_grammar.specs.Tables.{may_stand};
 ghost use Rattle.pd_spells.specs.EraText.{Line, era_kind, run_kind, end_kind, era_tests};
 ghost use Rattle.pd_texts.specs.Seen.{seen_by};
 ghost use Rattle.pd_texts.specs.Words.{made_of};
-ghost use Rattle.pd_era_texts.specs.EraKind.{kind_meant};
 ghost use Rattle.pd_era_texts.specs.EraLine.{era_meant};
 
-use crate::kind::EraKind;
 use crate::line::EraLine;
-use pd_grammar::TextCause;
-use pd_texts::{Stage, TextReader, TextState, cut_word, read_values};
+use pd_grammar::{Field, TextCause};
+use pd_texts::{Names, Numbers, Stage, TextLines, TextReader, TextState};
 use std::alloc::{AllocError, Global};
 
 /// The text of an era target, read line by line.
 pub type EraText = TextReader<EraState>;
+
+/// The kinds of lines after the first one.
+#[derive(Clone, Copy)]
+pub enum EraKind {
+    Era,
+    Run,
+    End,
+}
 
 /// What the lines so far of an era target's text say of the next one.
 #[derive(Drop)]
@@ -28,18 +33,29 @@ pub struct EraState {
     run_end: u64,
 }
 
+impl TextLines for EraState {
+    type Line = EraLine;
+}
+
 impl TextState for EraState {
     ghost use Rattle.std.specs.Prelude.{refl};
-    ghost use Rattle.pd_spells.specs.EraText.{Line, first_line, era};
+    ghost use Rattle.pd_spells.specs.EraText.{Line, first_line, era_table, era};
+    ghost use Rattle.pd_era_texts.specs.EraKind.{kind_meant};
     ghost use Rattle.pd_era_texts.specs.EraLine.{era_meant};
     ghost use Rattle.pd_era_texts.specs.EraState.{EraStands};
     ghost use Rattle.pd_era_texts.specs.EraEnds.{era_header, era_ends};
 
-    type Line = EraLine;
+    type Kind = EraKind;
 
     ghost Meant = { Line };
 
     ghost format = { era };
+
+    ghost table = { era_table };
+
+    ghost by_table = { refl };
+
+    ghost kind_meant = { kind_meant };
 
     ghost first_line = { λ _. first_line };
 
@@ -75,19 +91,46 @@ impl TextState for EraState {
         Ok(())
     }
 
-    fn read(&mut self, text: &[u8]) -> Result<Option<EraLine>, TextCause> {
-        let (word, rest) = cut_word(text);
-        let kind = match EraKind::named(word) {
-            Some(kind) => kind,
-            None => return Err(TextCause::Word),
-        };
-        if !self.may_stand(kind) {
-            return Err(TextCause::Word);
+    #[tactic(auto, unfolding(pd_grammar::specs::Tables::kind_named))]
+    fn named(word: &[u8]) -> Option<EraKind> {
+        if word == b"run".as_slice() {
+            Some(EraKind::Run)
+        } else if word == b"era".as_slice() {
+            Some(EraKind::Era)
+        } else if word == b"end".as_slice() {
+            Some(EraKind::End)
+        } else {
+            None
         }
-        let mut names = [[0; 16]; 4];
-        let mut numbers = [0; 4];
-        read_values(kind.fields(), rest, &mut names, &mut numbers)?;
-        self.take(kind, &names, &numbers)
+    }
+
+    fn fields(kind: EraKind) -> &'static [Field] {
+        match kind {
+            EraKind::Era => &[Field::Uuid, Field::Number, Field::Number, Field::Number],
+            EraKind::Run => &[Field::Number; 3],
+            EraKind::End => &[],
+        }
+    }
+
+    #[tactic(auto, using(pd_texts::proofs::StageLemmas::second_stage, pd_texts::proofs::StageLemmas::body_stage))]
+    fn may_stand(&self, kind: EraKind) -> bool {
+        match kind {
+            EraKind::Era => self.stage.is_second(),
+            EraKind::Run | EraKind::End => self.stage.is_body(),
+        }
+    }
+
+    fn take(
+        &mut self,
+        kind: EraKind,
+        names: &Names,
+        numbers: &Numbers,
+    ) -> Result<Option<EraLine>, TextCause> {
+        match kind {
+            EraKind::Run => self.take_run(names, numbers),
+            EraKind::Era => self.take_era(names, numbers),
+            EraKind::End => self.take_end(names, numbers),
+        }
     }
 
     ghost header = { era_header };
@@ -100,43 +143,9 @@ impl TextState for EraState {
 impl EraState {
     ghost use Rattle.pd_era_texts.specs.EraState.{EraStands};
 
-    /// Whether such a line may come next.
-    #[tactic(auto, using(pd_texts::proofs::StageLemmas::second_stage, pd_texts::proofs::StageLemmas::body_stage))]
-    fn may_stand(&self, kind: EraKind) -> bool
-        ensures { (before : List Line) → EraStands self.now before → result ≡ may_stand (kind_meant kind).place before }
-    {
-        match kind {
-            EraKind::Era => self.stage.is_second(),
-            EraKind::Run | EraKind::End => self.stage.is_body(),
-        }
-    }
-
-    /// Takes a line of these values, or says which test it fails.
-    fn take(
-        &mut self,
-        kind: EraKind,
-        names: &[[u8; 16]; 4],
-        numbers: &[u64; 4],
-    ) -> Result<Option<EraLine>, TextCause>
-        ensures line { (before : List Line) → EraStands self.old before → 1 ≤ length before
-            → seen_by era_meant result ≡ tested era_tests before (made_of (kind_meant kind) names.now numbers.now) }
-        ensures after { (before : List Line) → EraStands self.old before → 1 ≤ length before
-            → IfOk result (λ taken. EraStands self.new (era_meant taken ∷ before)) }
-    {
-        match kind {
-            EraKind::Run => self.take_run(names, numbers),
-            EraKind::Era => self.take_era(names, numbers),
-            EraKind::End => self.take_end(names, numbers),
-        }
-    }
-
     /// Takes a run line of these values.
     #[tactic(auto, unfolding(pd_grammar::specs::Texts::tested))]
-    fn take_run(
-        &mut self,
-        names: &[[u8; 16]; 4],
-        numbers: &[u64; 4],
-    ) -> Result<Option<EraLine>, TextCause>
+    fn take_run(&mut self, names: &Names, numbers: &Numbers) -> Result<Option<EraLine>, TextCause>
         ensures line { (before : List Line) → EraStands self.old before → 1 ≤ length before
             → seen_by era_meant result ≡ tested era_tests before (made_of run_kind names.now numbers.now) }
         ensures after { (before : List Line) → EraStands self.old before → 1 ≤ length before
@@ -166,11 +175,7 @@ impl EraState {
 
     /// Takes an era line of these values.
     #[tactic(auto, unfolding(pd_grammar::specs::Texts::tested))]
-    fn take_era(
-        &mut self,
-        names: &[[u8; 16]; 4],
-        numbers: &[u64; 4],
-    ) -> Result<Option<EraLine>, TextCause>
+    fn take_era(&mut self, names: &Names, numbers: &Numbers) -> Result<Option<EraLine>, TextCause>
         ensures line { (before : List Line) → EraStands self.old before → 1 ≤ length before
             → seen_by era_meant result ≡ tested era_tests before (made_of era_kind names.now numbers.now) }
         ensures after { (before : List Line) → EraStands self.old before → 1 ≤ length before
@@ -198,11 +203,7 @@ impl EraState {
 
     /// Takes the last line, before which all blocks are covered.
     #[tactic(auto, unfolding(pd_grammar::specs::Texts::tested))]
-    fn take_end(
-        &mut self,
-        names: &[[u8; 16]; 4],
-        numbers: &[u64; 4],
-    ) -> Result<Option<EraLine>, TextCause>
+    fn take_end(&mut self, names: &Names, numbers: &Numbers) -> Result<Option<EraLine>, TextCause>
         ensures line { (before : List Line) → EraStands self.old before → 1 ≤ length before
             → seen_by era_meant result ≡ tested era_tests before (made_of end_kind names.now numbers.now) }
         ensures after { (before : List Line) → EraStands self.old before → 1 ≤ length before

@@ -11,7 +11,7 @@ use Rattle.pd_grammar.specs.declared.value.Field.TheVariants as f
 use Rattle.pd_grammar.specs.declared.value.Value.{Value}
 use Rattle.std.specs.List.{list_all}
 use Rattle.pd_grammar.specs.Words.{split, is_printable, result_map}
-use Rattle.pd_grammar.specs.Texts.{Test, read, tested}
+use Rattle.pd_grammar.specs.Texts.{Test, TextFormat, read, tested}
 use Rattle.pd_grammar.specs.Tables.{value_of, with_value, values_in, Table, LineKind, may_stand, kind_named, parsed_by, format_of}
 use Rattle.pd_grammar.proofs.SplitLemmas.{split-some}
 use Rattle.pd_grammar.proofs.NumberLemmas.{ok-err, same_Ok}
@@ -173,24 +173,24 @@ values_bad fields values i None past e = rw (drop_past fields i past) refl
 values_bad fields values i (Some bytes) past e = absurd (true≢false (sym e))
 
 -- what a later line is by its words: of no kind, of a kind that may not stand there, and of one that may
-module _ {L : Type 0} (table : Table L) (before : List L) (bytes word : List ℕ) (words : List (List ℕ)) (some : 1 ≤ length before) (text : list_all is_printable bytes ≡ true) (cut : split 32 bytes ≡ word ∷ words) where
-  pub read_none : None ≡ kind_named table.kinds word → Err Word ≡ read (format_of table) before bytes
+module _ {L : Type 0} (format : TextFormat L) (table : Table L) (by_table : format ≡ format_of table) (before : List L) (bytes word : List ℕ) (words : List (List ℕ)) (some : 1 ≤ length before) (text : list_all is_printable bytes ≡ true) (cut : split 32 bytes ≡ word ∷ words) where
+  pub read_none : None ≡ kind_named table.kinds word → Err Word ≡ read format before bytes
   unfolding parsed_by
-  read_none named = later_err (format_of table) before bytes Word some text (rw (cut, ← named) refl)
+  read_none named = rw by_table (later_err (format_of table) before bytes Word some text (rw (cut, ← named) refl))
 
-  pub read_elsewhere : (kind : LineKind L) → Some kind ≡ kind_named table.kinds word → false ≡ may_stand kind.place before → Err Word ≡ read (format_of table) before bytes
+  pub read_elsewhere : (kind : LineKind L) → Some kind ≡ kind_named table.kinds word → false ≡ may_stand kind.place before → Err Word ≡ read format before bytes
   unfolding parsed_by
-  read_elsewhere kind named stands = later_err (format_of table) before bytes Word some text (rw (cut, ← named, ← stands) refl)
+  read_elsewhere kind named stands = rw by_table (later_err (format_of table) before bytes Word some text (rw (cut, ← named, ← stands) refl))
 
   pub read_words : (kind : LineKind L) (xs : List Value) (r : Result L TextCause) → Some kind ≡ kind_named table.kinds word → true ≡ may_stand kind.place before
-      → values_in kind.fields words ≡ Ok xs → r ≡ tested table.tests before (kind.make xs) → r ≡ read (format_of table) before bytes
+      → values_in kind.fields words ≡ Ok xs → r ≡ tested table.tests before (kind.make xs) → r ≡ read format before bytes
   unfolding parsed_by
-  read_words kind xs r named stands are e = later_ok (format_of table) before bytes (kind.make xs) r some text (rw (cut, ← named, ← stands, are) refl) e
+  read_words kind xs r named stands are e = rw by_table (later_ok (format_of table) before bytes (kind.make xs) r some text (rw (cut, ← named, ← stands, are) refl) e)
 
   pub read_err : (kind : LineKind L) (cause : TextCause) → Some kind ≡ kind_named table.kinds word → true ≡ may_stand kind.place before
-      → values_in kind.fields words ≡ Err cause → Err cause ≡ read (format_of table) before bytes
+      → values_in kind.fields words ≡ Err cause → Err cause ≡ read format before bytes
   unfolding parsed_by
-  read_err kind cause named stands are = later_err (format_of table) before bytes cause some text (rw (cut, ← named, ← stands, are) refl)
+  read_err kind cause named stands are = rw by_table (later_err (format_of table) before bytes cause some text (rw (cut, ← named, ← stands, are) refl))
 
 -- a line whose numbers aren't in their ranges, and one whose numbers are
 module _ {L : Type 0} (is_out : List L → L → Bool) (tests : List (Test L)) (before : List L) (line : L) where

@@ -1,8 +1,8 @@
 -- The kinds of lines of a pool's text.
 use Rattle.pd_grammar.specs.Tables.{LineKind}
 use Rattle.pd_spells.specs.ThinText.{Line, pool_kind, leaf_kind, device_kind, use_kind, map_kind, end_kind}
-use Rattle.pd_texts.specs.declared.thin_kind.ThinKind.{ThinKind}
-use Rattle.pd_texts.specs.declared.thin_kind.ThinKind.TheVariants as k
+use Rattle.pd_texts.specs.declared.thin_state.ThinKind.{ThinKind}
+use Rattle.pd_texts.specs.declared.thin_state.ThinKind.TheVariants as k
 
 -- the kind of a line
 abbrev pub kind_meant : ThinKind → LineKind Line

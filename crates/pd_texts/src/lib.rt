@@ -10,7 +10,6 @@ mod print;
 mod reader;
 mod stage;
 mod state;
-mod thin_kind;
 mod thin_laws;
 mod thin_line;
 mod thin_print;
@@ -23,7 +22,7 @@ pub use fault::{ReadFault, TextFault};
 pub use print::{add_uuid, add_word, bytes_of_end, bytes_of_first, print_end, print_first};
 pub use reader::TextReader;
 pub use stage::Stage;
-pub use state::TextState;
+pub use state::{TextLines, TextState};
 pub use thin_laws::{
     pool_text_is_its_lines, read_pool_lines_are_in_range, read_thin_lines_are_in_range,
     read_thin_lines_mean_a_pool, thin_lines_are_printed_in_order, whole_thin_text_spells,
@@ -32,5 +31,5 @@ pub use thin_line::{Run2, ThinLine};
 pub use thin_print::{bytes_of_shared_first, print_shared_first, print_thin};
 pub use thin_state::ThinState;
 pub use thin_text::ThinText;
-pub use values::read_values;
-pub use words::{cut_word, number_word, read_uuid};
+pub use values::{Names, Numbers};
+pub use words::{number_word, read_uuid};

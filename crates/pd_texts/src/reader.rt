@@ -5,7 +5,7 @@ ghost use Rattle.pd_image.specs.Source.{KeepsSource};
 ghost use Rattle.pd_texts.specs.Faults.{CountsReads, IsPast, WantsMemory};
 
 use crate::fault::{ReadFault, fault_after_end, fault_of, text_fault};
-use crate::state::TextState;
+use crate::state::{TextLines, TextState, read_line};
 use pd_grammar::TextCause;
 use pd_image::Source;
 use pd_lines::LineReader;
@@ -13,7 +13,7 @@ use std::alloc::{AllocError, Global};
 
 /// A text that is read line by line.
 #[derive(Drop)]
-pub struct TextReader<P: TextState> {
+pub struct TextReader<P: TextLines> {
     reader: LineReader,
     state: P,
 }
@@ -150,7 +150,7 @@ impl<P: TextState> TextReader<P> {
             Err(_) => return Err(ReadFault::Memory),
         }
         match self.reader.advance(source) {
-            Ok(true) => match self.state.read(self.reader.text()) {
+            Ok(true) => match read_line(&mut self.state, self.reader.text()) {
                 Ok(line) => Ok(line),
                 Err(cause) => Err(text_fault(self.reader.lines(), cause)),
             },

@@ -2,23 +2,43 @@
 
 ghost use Rattle.std.specs.Prelude.{◌≡◌, ◌==◌, ◌≤◌, ℕ, List, [], ◌∷◌, length, Option, Some, None, is_none, true, false, IfOk, IfErr, OnOk};
 ghost use Rattle.std.specs.List.{list_all};
+ghost use Rattle.std.specs.Option.{option_map};
 ghost use Rattle.pd_grammar.specs.Words.{is_printable};
-ghost use Rattle.pd_grammar.specs.Texts.{TextFormat, read};
+ghost use Rattle.pd_grammar.specs.Texts.{TextFormat, read, tested};
+ghost use Rattle.pd_grammar.specs.Tables.{LineKind, Table, format_of, kind_named, may_stand};
 ghost use Rattle.pd_texts.specs.Seen.{seen_by};
+ghost use Rattle.pd_texts.specs.Words.{made_of};
 
-use pd_grammar::TextCause;
+use crate::values::{Names, Numbers, read_values};
+use crate::words::cut_word;
+use pd_grammar::{Field, TextCause};
 use std::alloc::{AllocError, Global};
 
-/// What the lines so far say of the next one, in one kind of text.
-pub trait TextState: Drop {
+/// What gives lines of one kind of text.
+pub trait TextLines: Drop {
     /// What a line gives that isn't the first or the last one.
     type Line;
+}
+
+/// What the lines so far say of the next one, in one kind of text.
+pub trait TextState: TextLines {
+    /// The kinds of lines after the first one.
+    type Kind: Copy;
 
     /// What a line is in the definitions.
     ghost Meant: { Type 0 };
 
     /// The format of the text.
     ghost format: { TextFormat Meant };
+
+    /// The table of the format.
+    ghost table: { Table Meant };
+
+    /// The format is that of its table.
+    ghost by_table: { format ≡ format_of table };
+
+    /// The kind of a line in the definitions.
+    ghost kind_meant: { Self.Kind → LineKind Meant };
 
     /// The first line that was read.
     ghost first_line: { Self → Meant };
@@ -56,15 +76,32 @@ pub trait TextState: Drop {
         ensures room { OnOk result (HasRoom self.new) }
         ensures memory { IfErr result (λ _. CanWantMemory self.new) };
 
-    /// Reads a later line, of which none is the last one, or says why it is refused. After an error it says nothing
-    /// of what a further call gives. It takes no memory.
-    fn read(&mut self, text: &[u8]) -> Result<Option<Self::Line>, TextCause>
-        requires text { list_all is_printable text.now ≡ true }
-        requires room { HasRoom self.old }
+    /// The kind of line with this keyword.
+    fn named(word: &[u8]) -> Option<Self::Kind>
+        ensures { option_map kind_meant result ≡ kind_named table.kinds word.now };
+
+    /// The fields of such a line.
+    fn fields(kind: Self::Kind) -> &'static [Field]
+        ensures fields { result.now ≡ (kind_meant kind).fields }
+        ensures few { length result.now ≤ 9 };
+
+    /// Whether such a line may come next.
+    fn may_stand(&self, kind: Self::Kind) -> bool
+        ensures { (before : List Meant) → Stands self.now before → result ≡ may_stand (kind_meant kind).place before };
+
+    /// Takes a line of these values, of which none is the last one, or says which test it fails. After an error it
+    /// says nothing of what a further call gives. It takes no memory.
+    fn take(
+        &mut self,
+        kind: Self::Kind,
+        names: &Names,
+        numbers: &Numbers,
+    ) -> Result<Option<Self::Line>, TextCause>
         ensures line { (before : List Meant) → Stands self.old before → 1 ≤ length before
-            → seen_by meant result ≡ read format before text.now }
+            → seen_by meant result ≡ tested table.tests before (made_of (kind_meant kind) names.now numbers.now) }
         ensures after { (before : List Meant) → Stands self.old before → 1 ≤ length before
-            → IfOk result (λ line. Stands self.new (meant line ∷ before)) }
+            → HasRoom self.old → may_stand (kind_meant kind).place before ≡ true
+            → IfOk result (λ taken. Stands self.new (meant taken ∷ before)) }
         ensures first { first_line self.new ≡ first_line self.old };
 
     /// The first line has only bytes that a line may have.
@@ -75,4 +112,36 @@ pub trait TextState: Drop {
 
     /// The last line is the one that gives nothing.
     ghost ends: { (line : Option Self.Line) → format.is_end (meant line) ≡ is_none line };
+}
+
+/// Reads a later line, of which none is the last one, or says why it is refused. After an error the state says nothing
+/// of what a further call gives. It takes no memory.
+// A call would copy the line once more; so would one of `take`.
+#[inline(always)]
+pub(crate) fn read_line<P: TextState>(
+    state: &mut P,
+    text: &[u8],
+) -> Result<Option<P::Line>, TextCause>
+    requires text { list_all is_printable text.now ≡ true }
+    requires room { P.HasRoom state.old }
+    ensures line { (before : List P.Meant) → P.Stands state.old before → 1 ≤ length before
+        → seen_by P.meant result ≡ read P.format before text.now }
+    ensures after { (before : List P.Meant) → P.Stands state.old before → 1 ≤ length before
+        → IfOk result (λ line. P.Stands state.new (P.meant line ∷ before)) }
+    ensures first { P.first_line state.new ≡ P.first_line state.old }
+{
+    let (word, rest) = cut_word(text);
+    let kind = match P::named(word) {
+        Some(kind) => kind,
+        None => return Err(TextCause::Word),
+    };
+    if !state.may_stand(kind) {
+        return Err(TextCause::Word);
+    }
+    let mut names = [[0; 16]; 9];
+    let mut numbers = [0; 9];
+    match read_values(P::fields(kind), rest, &mut names, &mut numbers) {
+        Ok(()) => state.take(kind, &names, &numbers),
+        Err(cause) => Err(cause),
+    }
 }

@@ -1,24 +1,31 @@
 //! What the lines so far of a pool's text say of the next one.
 
 ghost use Rattle.std.specs.Prelude.{◌≡◌, ◌==◌, ◌≤◌, ◌<◌, List, ◌∷◌, length, IfOk, true, false};
-ghost use Rattle.pd_grammar.specs.Texts.{read, tested};
-ghost use Rattle.pd_grammar.specs.Tables.{may_stand};
+ghost use Rattle.pd_grammar.specs.Texts.{tested};
 ghost use Rattle.pd_spells.specs.ThinText.{Line, pool_kind, leaf_kind, device_kind, use_kind, map_kind, end_kind, use_line, leaf_number, thin_tests, is_out_of_order, is_mapped_otherwise};
 ghost use Rattle.pd_texts.specs.Seen.{seen_by};
-ghost use Rattle.pd_texts.specs.ThinKind.{kind_meant};
 ghost use Rattle.pd_texts.specs.Words.{made_of};
 ghost use Rattle.pd_texts.specs.ThinLine.{thin_meant};
 
 use crate::leaves::Leaves;
 use crate::stage::Stage;
-use crate::state::TextState;
-use crate::thin_kind::ThinKind;
+use crate::state::{TextLines, TextState};
 use crate::thin_line::{Run2, ThinLine};
-use crate::values::read_values;
-use crate::words::cut_word;
-use pd_grammar::TextCause;
+use crate::values::{Names, Numbers};
+use pd_grammar::{Field, TextCause};
 use pd_value::Details;
 use std::alloc::{AllocError, Global};
+
+/// The kinds of lines after the first one.
+#[derive(Clone, Copy)]
+pub enum ThinKind {
+    Pool,
+    Leaf,
+    Device,
+    Use,
+    Map,
+    End,
+}
 
 /// What the lines so far of a pool's text say of the next one.
 #[derive(Drop)]
@@ -39,17 +46,29 @@ pub struct ThinState {
     leaves: Leaves,
 }
 
+impl TextLines for ThinState {
+    type Line = ThinLine;
+}
+
 impl TextState for ThinState {
-    ghost use Rattle.pd_spells.specs.ThinText.{Line, pool_format};
+    ghost use Rattle.std.specs.Prelude.{refl};
+    ghost use Rattle.pd_spells.specs.ThinText.{Line, pool_table, pool_format};
+    ghost use Rattle.pd_texts.specs.ThinKind.{kind_meant};
     ghost use Rattle.pd_texts.specs.ThinLine.{thin_meant};
     ghost use Rattle.pd_texts.specs.ThinState.{ThinStands, first_of, HasRoomNext, CanWant, pool_begins};
     ghost use Rattle.pd_texts.specs.ThinLaws.{pool_header, pool_ends};
 
-    type Line = ThinLine;
+    type Kind = ThinKind;
 
     ghost Meant = { Line };
 
     ghost format = { pool_format };
+
+    ghost table = { pool_table };
+
+    ghost by_table = { refl };
+
+    ghost kind_meant = { kind_meant };
 
     ghost first_line = { first_of };
 
@@ -102,22 +121,69 @@ impl TextState for ThinState {
         }
     }
 
-    // A call would copy the line once more; so would one of `take`.
-    #[inline(always)]
-    fn read(&mut self, text: &[u8]) -> Result<Option<ThinLine>, TextCause> {
-        let (word, rest) = cut_word(text);
-        let kind = match ThinKind::named(word) {
-            Some(kind) => kind,
-            None => return Err(TextCause::Word),
-        };
-        if !self.may_stand(kind) {
-            return Err(TextCause::Word);
+    #[tactic(auto, unfolding(pd_grammar::specs::Tables::kind_named))]
+    fn named(word: &[u8]) -> Option<ThinKind> {
+        if word == b"map".as_slice() {
+            Some(ThinKind::Map)
+        } else if word == b"use".as_slice() {
+            Some(ThinKind::Use)
+        } else if word == b"leaf".as_slice() {
+            Some(ThinKind::Leaf)
+        } else if word == b"device".as_slice() {
+            Some(ThinKind::Device)
+        } else if word == b"pool".as_slice() {
+            Some(ThinKind::Pool)
+        } else if word == b"end".as_slice() {
+            Some(ThinKind::End)
+        } else {
+            None
         }
-        let mut names = [[0; 16]; 5];
-        let mut numbers = [0; 5];
-        match read_values(kind.fields(), rest, &mut names, &mut numbers) {
-            Ok(()) => self.take(kind, &names, &numbers),
-            Err(cause) => Err(cause),
+    }
+
+    fn fields(kind: ThinKind) -> &'static [Field] {
+        match kind {
+            ThinKind::Pool => &[
+                Field::Uuid,
+                Field::Number,
+                Field::Number,
+                Field::Number,
+                Field::Number,
+            ],
+            ThinKind::Leaf => &[Field::Number; 2],
+            ThinKind::Device => &[Field::Number; 5],
+            ThinKind::Use => &[Field::Number],
+            ThinKind::Map => &[Field::Number; 4],
+            ThinKind::End => &[],
+        }
+    }
+
+    #[tactic(auto, using(crate::proofs::StageLemmas::second_stage, crate::proofs::StageLemmas::body_stage))]
+    fn may_stand(&self, kind: ThinKind) -> bool {
+        match kind {
+            ThinKind::Map => {
+                self.stage.is_body() & (self.has_device | (0 < self.leaves.number()))
+            }
+            ThinKind::Use => self.stage.is_body() & (self.is_shared & self.has_device),
+            ThinKind::Leaf => self.stage.is_body() & (self.is_shared & !self.has_device),
+            ThinKind::Device | ThinKind::End => self.stage.is_body(),
+            ThinKind::Pool => self.stage.is_second(),
+        }
+    }
+
+    #[inline(always)]
+    fn take(
+        &mut self,
+        kind: ThinKind,
+        names: &Names,
+        numbers: &Numbers,
+    ) -> Result<Option<ThinLine>, TextCause> {
+        match kind {
+            ThinKind::Map => self.take_map(names, numbers),
+            ThinKind::Use => self.take_use(names, numbers),
+            ThinKind::Leaf => self.take_leaf(names, numbers),
+            ThinKind::Device => self.take_device(names, numbers),
+            ThinKind::Pool => self.take_pool(names, numbers),
+            ThinKind::End => self.take_end(names, numbers),
         }
     }
 
@@ -146,54 +212,9 @@ impl ThinState {
         }
     }
 
-    /// Whether such a line may come next.
-    #[tactic(auto, using(crate::proofs::StageLemmas::second_stage, crate::proofs::StageLemmas::body_stage))]
-    fn may_stand(&self, kind: ThinKind) -> bool
-        ensures { (before : List Line) → ThinStands self.now before → result ≡ may_stand (kind_meant kind).place before }
-    {
-        match kind {
-            ThinKind::Map => {
-                self.stage.is_body() & (self.has_device | (0 < self.leaves.number()))
-            }
-            ThinKind::Use => self.stage.is_body() & (self.is_shared & self.has_device),
-            ThinKind::Leaf => self.stage.is_body() & (self.is_shared & !self.has_device),
-            ThinKind::Device | ThinKind::End => self.stage.is_body(),
-            ThinKind::Pool => self.stage.is_second(),
-        }
-    }
-
-    /// Takes a line of these values, or says which test it fails.
-    #[inline(always)]
-    fn take(
-        &mut self,
-        kind: ThinKind,
-        names: &[[u8; 16]; 5],
-        numbers: &[u64; 5],
-    ) -> Result<Option<ThinLine>, TextCause>
-        ensures line { (before : List Line) → ThinStands self.old before → 1 ≤ length before
-            → seen_by thin_meant result ≡ tested thin_tests before (made_of (kind_meant kind) names.now numbers.now) }
-        ensures after { (before : List Line) → ThinStands self.old before → 1 ≤ length before
-            → HasRoomNext self.old → may_stand (kind_meant kind).place before ≡ true
-            → IfOk result (λ taken. ThinStands self.new (thin_meant taken ∷ before)) }
-        ensures version { self.new.is_shared ≡ self.old.is_shared }
-    {
-        match kind {
-            ThinKind::Map => self.take_map(names, numbers),
-            ThinKind::Use => self.take_use(names, numbers),
-            ThinKind::Leaf => self.take_leaf(names, numbers),
-            ThinKind::Device => self.take_device(names, numbers),
-            ThinKind::Pool => self.take_pool(names, numbers),
-            ThinKind::End => self.take_end(names, numbers),
-        }
-    }
-
     /// Takes a map line of these values: the run is above the last piece, and within what was said to be mapped.
     #[tactic(auto, unfolding(pd_grammar::specs::Texts::tested))]
-    fn take_map(
-        &mut self,
-        names: &[[u8; 16]; 5],
-        numbers: &[u64; 5],
-    ) -> Result<Option<ThinLine>, TextCause>
+    fn take_map(&mut self, names: &Names, numbers: &Numbers) -> Result<Option<ThinLine>, TextCause>
         ensures line { (before : List Line) → ThinStands self.old before → 1 ≤ length before
             → seen_by thin_meant result ≡ tested thin_tests before (made_of map_kind names.now numbers.now) }
         ensures after { (before : List Line) → ThinStands self.old before → 1 ≤ length before
@@ -233,11 +254,7 @@ impl ThinState {
 
     /// Takes a use line of these values: the leaf is above the last piece, and within what was said to be mapped.
     #[tactic(auto, unfolding(pd_grammar::specs::Texts::tested))]
-    fn take_use(
-        &mut self,
-        names: &[[u8; 16]; 5],
-        numbers: &[u64; 5],
-    ) -> Result<Option<ThinLine>, TextCause>
+    fn take_use(&mut self, names: &Names, numbers: &Numbers) -> Result<Option<ThinLine>, TextCause>
         ensures line { (before : List Line) → ThinStands self.old before → 1 ≤ length before
             → seen_by thin_meant result ≡ tested thin_tests before (made_of use_kind names.now numbers.now) }
         ensures after { (before : List Line) → ThinStands self.old before → 1 ≤ length before
@@ -280,11 +297,7 @@ impl ThinState {
 
     /// Takes a leaf line of these values, in the memory that was taken for it.
     #[tactic(auto, unfolding(pd_grammar::specs::Texts::tested))]
-    fn take_leaf(
-        &mut self,
-        names: &[[u8; 16]; 5],
-        numbers: &[u64; 5],
-    ) -> Result<Option<ThinLine>, TextCause>
+    fn take_leaf(&mut self, names: &Names, numbers: &Numbers) -> Result<Option<ThinLine>, TextCause>
         ensures line { (before : List Line) → ThinStands self.old before → 1 ≤ length before
             → seen_by thin_meant result ≡ tested thin_tests before (made_of leaf_kind names.now numbers.now) }
         ensures after { (before : List Line) → ThinStands self.old before → 1 ≤ length before
@@ -314,8 +327,8 @@ impl ThinState {
     #[tactic(auto, unfolding(pd_grammar::specs::Texts::tested))]
     fn take_device(
         &mut self,
-        names: &[[u8; 16]; 5],
-        numbers: &[u64; 5],
+        names: &Names,
+        numbers: &Numbers,
     ) -> Result<Option<ThinLine>, TextCause>
         ensures line { (before : List Line) → ThinStands self.old before → 1 ≤ length before
             → seen_by thin_meant result ≡ tested thin_tests before (made_of device_kind names.now numbers.now) }
@@ -353,11 +366,7 @@ impl ThinState {
 
     /// Takes a pool line of these values.
     #[tactic(auto, unfolding(pd_grammar::specs::Texts::tested))]
-    fn take_pool(
-        &mut self,
-        names: &[[u8; 16]; 5],
-        numbers: &[u64; 5],
-    ) -> Result<Option<ThinLine>, TextCause>
+    fn take_pool(&mut self, names: &Names, numbers: &Numbers) -> Result<Option<ThinLine>, TextCause>
         ensures line { (before : List Line) → ThinStands self.old before → 1 ≤ length before
             → seen_by thin_meant result ≡ tested thin_tests before (made_of pool_kind names.now numbers.now) }
         ensures after { (before : List Line) → ThinStands self.old before → 1 ≤ length before
@@ -386,11 +395,7 @@ impl ThinState {
 
     /// Takes the last line, before which each mapping was given and each leaf is used.
     #[tactic(auto, unfolding(pd_grammar::specs::Texts::tested))]
-    fn take_end(
-        &mut self,
-        names: &[[u8; 16]; 5],
-        numbers: &[u64; 5],
-    ) -> Result<Option<ThinLine>, TextCause>
+    fn take_end(&mut self, names: &Names, numbers: &Numbers) -> Result<Option<ThinLine>, TextCause>
         ensures line { (before : List Line) → ThinStands self.old before → 1 ≤ length before
             → seen_by thin_meant result ≡ tested thin_tests before (made_of end_kind names.now numbers.now) }
         ensures after { (before : List Line) → ThinStands self.old before → 1 ≤ length before

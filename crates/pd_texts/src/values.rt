@@ -9,6 +9,12 @@ ghost use Rattle.pd_texts.specs.Words.{first_word, words_in, is_name, value_by, 
 use crate::words::{cut_number, cut_word, read_uuid};
 use pd_grammar::{Field, TextCause};
 
+/// The identifiers of a line, each in the place of its field.
+pub type Names = [[u8; 16]; 9];
+
+/// The numbers of a line, each in the place of its field.
+pub type Numbers = [u64; 9];
+
 /// The policy name that a word is: 32 hexadecimal digits in lower case.
 #[tactic(auto, unfolding(pd_grammar::specs::Words::bytes_of))]
 fn read_policy(word: &[u8]) -> Option<[u8; 16]>
@@ -99,7 +105,7 @@ fn put_name(names: &mut [[u8; 16]], i: usize, name: Option<[u8; 16]>) -> bool
 
 /// Reads the values of the words of fields, a word for each, identifiers and numbers each into their places. `Word` where
 /// there are more or fewer words, or where one isn't an identifier, else `Number` where one isn't a number.
-pub fn read_values(
+pub(crate) fn read_values(
     fields: &[Field],
     words: Option<&[u8]>,
     names: &mut [[u8; 16]],

@@ -10,7 +10,7 @@ ghost use Rattle.pd_texts.specs.Words.{first_word, words_in};
 use uuid::Uuid;
 
 /// The first word, and what follows it after a space.
-pub fn cut_word(bytes: &[u8]) -> (&[u8], Option<&[u8]>)
+pub(crate) fn cut_word(bytes: &[u8]) -> (&[u8], Option<&[u8]>)
     ensures { split 32 bytes.now ≡ result.0.now ∷ words_in result.1 }
 {
     for i in 0..bytes.len() {

@@ -1,5 +1,5 @@
 use Rattle.pd_texts.proofs.StateLemmas.{room_for_leaf}
-use Rattle.pd_texts.proofs.thin_state.ThinState.take.Goals as goal
+use Rattle.pd_texts.proofs.thin_state.ThinStateTextState.take.Goals as goal
 
 pub returns-in-Leaf-clause-after : goal.returns-in-Leaf-clause-after
 returns-in-Leaf-clause-after c = λ before stands some room may.
