@@ -7,10 +7,10 @@ use Rattle.pd_cache_meaning.specs.declared.block_words.BlockWords.{BlockWords}
 use Rattle.pd_cache_meaning.specs.declared.map_words.MapWords.{MapWords}
 use Rattle.pd_cache_meaning.specs.declared.sides.Sides.{Sides}
 use Rattle.pd_cache_meaning.specs.declared.cache_rows.CacheRows.{CacheRows}
-use Rattle.pd_cache_meaning.specs.SideArrays.{rows_of}
+use Rattle.pd_cache_meaning.specs.Rows.{block_after, rows_of}
 use Rattle.pd_cache_meaning.specs.BlockWords.{TakesFirst, block_words_number}
 use Rattle.pd_cache_meaning.specs.MapWords.{Ends, KnowsIdle, Passes, map_words}
-use Rattle.pd_cache_meaning.specs.Sides.{KnowsSides, SkipsSides, bits_ahead, block_after, hints_ahead}
+use Rattle.pd_cache_meaning.specs.Sides.{KnowsSides, SkipsSides, bits_ahead, hints_ahead}
 use Rattle.pd_cache_meaning.specs.RowsAhead.{GivesWord, Knows, TakesNone, rows_ahead, rows_ahead_number}
 use Rattle.pd_cache_meaning.proofs.SidesLemmas.{rows_past}
 

@@ -5,7 +5,7 @@ use Rattle.std.proofs.lemmas.Bool.{cases_Bool}
 use Rattle.std.proofs.lemmas.List.{get_or-drop}
 use Rattle.pd_kinds.specs.Meaning.{CacheEntry}
 use Rattle.pd_kinds.specs.Whole.{is_valid_word, origin_of_word}
-use Rattle.pd_cache_meaning.specs.SideArrays.{behind_first, is_dirty_by, next_block, rows_of}
+use Rattle.pd_cache_meaning.specs.Rows.{bits_behind, block_after, is_dirty_by, rows_of}
 use Rattle.pd_cache_meaning.specs.Given.{entry_of}
 
 -- one element more is left out
@@ -20,7 +20,7 @@ first_left i xs = get_or-drop i xs 0 0 ∙ ap (λ (j : ℕ). get_or xs j 0) (ome
 
 -- bits may be left from each index on, and say of each block whether it is dirty
 module _ (all hints : List ℕ) (bits : ℕ → Option (List ℕ)) (is_dirty : ℕ → Bool)
-    (dirty_at : (i : ℕ) → is_dirty_by (bits i) (get_or all i 0) ≡ is_dirty i) (behind_at : (i : ℕ) → behind_first (bits i) ≡ bits (suc i)) where
+    (dirty_at : (i : ℕ) → is_dirty_by (bits i) (get_or all i 0) ≡ is_dirty i) (behind_at : (i : ℕ) → bits_behind 1 (bits i) ≡ bits (suc i)) where
   abbrev entry_at : ℕ → CacheEntry
   entry_at i = record { block = i; origin = origin_of_word (get_or all i 0); dirty = is_dirty i; hint = get_or hints i 0 }
 
@@ -34,7 +34,7 @@ module _ (all hints : List ℕ) (bits : ℕ → Option (List ℕ)) (is_dirty : �
   entries_from (word ∷ words) i is few =
       let here : word ≡ get_or all i 0 = ap (λ (xs : List ℕ). get_or xs 0 0) is ∙ first_left i all in
       let rest : words ≡ drop (suc i) all = ap (drop 1) is ∙ drop_next i all in
-      let next : next_block i ≡ suc i = omega arith in
+      let next : block_after 1 i ≡ suc i = omega arith in
       let one_more : suc i ≡ i + 1 = omega arith in
       let later =
       entries_from words (suc i) rest (omega arith)

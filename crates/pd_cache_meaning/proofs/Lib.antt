@@ -1,4 +1,3 @@
-pub mod TakeLemmas
 pub mod BitLemmas
 pub mod EntryLemmas
 pub mod SoundCache

@@ -3,15 +3,15 @@ use Rattle.std.proofs.Common.{◌≡◌, ℕ, zero, suc, ◌+◌, ◌^◌, ◌<�
 use Rattle.std.specs.List.{list_any}
 use Rattle.std.proofs.lemmas.Bool.{or_parts}
 use Rattle.pd_kinds.specs.Whole.{is_valid_word}
-use Rattle.pd_cache_meaning.specs.declared.side_arrays.CacheRow.{CacheRow}
+use Rattle.pd_cache_meaning.specs.declared.row.CacheRow.{CacheRow}
 use Rattle.pd_cache_meaning.specs.declared.skipped_bits.SkippedBits.{SkippedBits}
 use Rattle.pd_cache_meaning.specs.declared.skipped_hints.SkippedHints.{SkippedHints}
 use Rattle.pd_cache_meaning.specs.declared.sides.Sides.{Sides}
-use Rattle.pd_cache_meaning.specs.SideArrays.{behind_first, next_block, rows_of}
+use Rattle.pd_cache_meaning.specs.Rows.{bits_behind, block_after, rows_of}
 use Rattle.pd_cache_meaning.specs.SkippedWords.{IsFirst, KnowsLengths, Skips}
 use Rattle.pd_cache_meaning.specs.SkippedBits.{IsFirstBit, SkipsBits}
 use Rattle.pd_cache_meaning.specs.MapWords.{AreIdle}
-use Rattle.pd_cache_meaning.specs.Sides.{Gives, IsFirstDirty, IsFirstHint, IsRow, KnowsBits, KnowsHints, SkipsDirty, SkipsHints, SkipsSides, bits_ahead, bits_behind, block_after}
+use Rattle.pd_cache_meaning.specs.Sides.{Gives, IsFirstDirty, IsFirstHint, IsRow, KnowsBits, KnowsHints, SkipsDirty, SkipsHints, SkipsSides, bits_ahead}
 use Rattle.pd_cache_meaning.proofs.SkipLemmas.{drop_both}
 
 -- where there are hints or bits
@@ -35,16 +35,12 @@ dirty_first image word bit old some new is first = rw is (λ knows.
     let done = first knows in
     record { skips = record { knows = done.skips.knows; bits = ap Some done.skips.bits }; first_is = ap (λ (b : ℕ). nat_eq b 1) done.first_is })
 
--- the bits behind none, one, and more
+-- the bits behind none, and more
 none_behind : (bits : Option (List ℕ)) → bits_behind 0 bits ≡ bits
 none_behind None = refl
 none_behind (Some bits) = refl
 
-one_behind : (bits : Option (List ℕ)) → bits_behind 1 bits ≡ behind_first bits
-one_behind None = refl
-one_behind (Some bits) = refl
-
-more_behind : (n : ℕ) (bits : Option (List ℕ)) → bits_behind n (behind_first bits) ≡ bits_behind (suc n) bits
+more_behind : (n : ℕ) (bits : Option (List ℕ)) → bits_behind n (bits_behind 1 bits) ≡ bits_behind (suc n) bits
 more_behind n None = refl
 more_behind n (Some bits) = let sum : 1 + n ≡ suc n = omega arith in rw (drop_both n 1 bits, sum) refl
 
@@ -53,7 +49,7 @@ pub gives_none : (image : List (List ℕ)) (word : ℕ) (old new : Sides) → is
 unfolding rows_of
 gives_none image word old new other skips block = record {
   knows = (skips.hints.knows, skips.bits.knows);
-  rows = λ words. rw (other, skips.hints.hints, skips.bits.bits, block, one_behind (bits_ahead image old.bits)) refl;
+  rows = λ words. rw (other, skips.hints.hints, skips.bits.bits, block) refl;
 }
 
 -- the row of one that does
@@ -63,7 +59,7 @@ unfolding rows_of
 gives_row image word row old mid new valid is same skips block = record {
   knows = (skips.hints.knows, skips.bits.knows);
   rows = λ words.
-      rw (valid, skips.hints.hints, skips.bits.bits, block, same, is.skips.hints.hints, is.skips.bits.bits, none_behind (bits_ahead image old.bits), one_behind (bits_ahead image old.bits), is.row_is) refl;
+      rw (valid, skips.hints.hints, skips.bits.bits, block, same, is.skips.hints.hints, is.skips.bits.bits, none_behind (bits_ahead image old.bits), is.row_is) refl;
 }
 
 -- words that map no block, ahead of others
@@ -78,9 +74,9 @@ rows_past (word ∷ front) words zero block hints bits idle fits = absurd (let n
 rows_past (word ∷ front) words (suc n) block hints bits idle fits =
     let others = or_parts (is_valid_word word) (list_any is_valid_word front) idle.1 in
     let fewer : length front ≡ n = let long = idle.0 in omega arith in
-    let next_fits : next_block block < 2 ^ 64 = omega arith in
-    let place : block_after n (next_block block) ≡ block_after (suc n) block = omega arith in
+    let next_fits : block_after 1 block < 2 ^ 64 = omega arith in
+    let place : block_after n (block_after 1 block) ≡ block_after (suc n) block = omega arith in
     let sum : 1 + n ≡ suc n = omega arith in
     rw others.0
-    (rows_past front words n (next_block block) (drop 1 hints) (behind_first bits) (fewer, others.1) next_fits
+    (rows_past front words n (block_after 1 block) (drop 1 hints) (bits_behind 1 bits) (fewer, others.1) next_fits
     ∙ rw (place, drop_both n 1 hints, sum, more_behind n bits) refl)

@@ -20,10 +20,9 @@ use Rattle.pd_laws.proofs.CleanLemmas.{clean_super_where_none, whole_where_none}
 use Rattle.pd_kinds.specs.Trees.{entries_below, words_of}
 use Rattle.pd_tree.specs.Roots.{HasCacheRoots}
 use Rattle.pd_tree.specs.TreeRoles.{HasCacheTrees, IsTreeRole}
-use Rattle.pd_cache_meaning.specs.SideArrays.{behind_first, is_dirty_by}
 use Rattle.pd_cache_meaning.specs.Given.{GivesCache, entry_of}
 use Rattle.pd_cache_meaning.specs.Left.{bits_of, words_below}
-use Rattle.pd_cache_meaning.specs.Rows.{RootsBelow, dirty_below, has_hints, hints_below, rows_below}
+use Rattle.pd_cache_meaning.specs.Rows.{RootsBelow, bits_behind, dirty_below, has_hints, hints_below, is_dirty_by, rows_below}
 use Rattle.pd_cache_meaning.proofs.BitLemmas.{bits_at}
 use Rattle.pd_cache_meaning.proofs.EntryLemmas.{drop_next, entries_from, first_left}
 
@@ -35,7 +34,7 @@ dirty_from : (has : Bool) (all words : List ℕ) (i : ℕ) → is_dirty_by (bits
 dirty_from true all words i = ap (λ (b : ℕ). nat_eq b 1) (first_left i (bits_of words) ∙ bits_at 64 (omega arith) words i)
 dirty_from false all words i = refl
 
-behind_from : (has : Bool) (words : List ℕ) (i : ℕ) → behind_first (bits_from has words i) ≡ bits_from has words (suc i)
+behind_from : (has : Bool) (words : List ℕ) (i : ℕ) → bits_behind 1 (bits_from has words i) ≡ bits_from has words (suc i)
 behind_from true words i = ap Some (drop_next i (bits_of words))
 behind_from false words i = refl
 

@@ -3,7 +3,7 @@ use Rattle.std.specs.Prelude.{◌≡◌, List, length, map, ℕ}
 use Rattle.pd_kinds.specs.Graph.{block_at}
 use Rattle.pd_kinds.specs.CacheFormat.{cache_fields}
 use Rattle.pd_kinds.specs.Meaning.{CacheEntry, cache_meaning}
-use Rattle.pd_cache_meaning.specs.declared.side_arrays.CacheRow.{CacheRow}
+use Rattle.pd_cache_meaning.specs.declared.row.CacheRow.{CacheRow}
 use Rattle.pd_cache_meaning.specs.Rows.{RootsBelow, rows_below}
 
 -- a row as an entry of the meaning

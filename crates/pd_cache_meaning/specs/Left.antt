@@ -1,25 +1,13 @@
--- What is left of the words and of the bits of an array.
-use Rattle.std.specs.Prelude.{◌≡◌, ℕ, zero, suc, ◌+◌, ◌/◌, ◌%◌, List, [], ◌∷◌, ◌++◌, drop, length, slice_index}
+-- The words and the bits of an array.
+use Rattle.std.specs.Prelude.{ℕ, zero, suc, ◌/◌, ◌%◌, List, [], ◌∷◌}
 use Rattle.std.specs.List.{flat_map}
-use Rattle.pd_tree.specs.ArrayCursor.{array_reads, array_words}
-use Rattle.pd_tree.specs.Below.{items_below, nodes_below}
+use Rattle.pd_tree.specs.Below.{items_below}
 use Rattle.pd_tree.specs.Items.{root_of}
 use Rattle.pd_tree.specs.Words.{words_of_items}
-use Rattle.pd_cache_meaning.specs.declared.bits.Bits.{Bits}
-use Rattle.pd_cache_meaning.specs.declared.hints.Hints.{Hints}
-
--- the first of what was left was taken, and 0 where nothing was
-pub record TakesWords (taken : ℕ) (old new : List ℕ) : Type 0 where
-  pub first : taken ≡ slice_index old 0
-  pub rest : new ≡ drop 1 old
 
 -- the words of this size of the array with this root
 abbrev pub words_below : ℕ → List (List ℕ) → ℕ → List ℕ
 words_below size image root = words_of_items size image (items_below 8 root_of image 63 root)
-
--- how many blocks a cursor over the array with this root reads at most: the nodes of its tree, and a block an entry
-abbrev pub reads_of_root : List (List ℕ) → ℕ → ℕ
-reads_of_root image root = length (nodes_below 8 image 63 root) + length (items_below 8 root_of image 63 root)
 
 -- the lowest bits of a word, from bit 0 on
 abbrev pub low_bits : ℕ → ℕ → List ℕ
@@ -33,17 +21,3 @@ bits_of words = flat_map (low_bits 64) words
 -- the bits of the array with this root
 abbrev pub bits_below : List (List ℕ) → ℕ → List ℕ
 bits_below image root = bits_of (words_below 8 image root)
-
--- the bits that are left, and how many reads they take at most
-abbrev pub bits_left : List (List ℕ) → Bits → List ℕ
-bits_left image bits = low_bits bits.left bits.word ++ bits_of (array_words image bits.words)
-
-abbrev pub bits_reads : List (List ℕ) → Bits → ℕ
-bits_reads image bits = array_reads image bits.words
-
--- the same of the hints
-abbrev pub hints_left : List (List ℕ) → Hints → List ℕ
-hints_left image hints = array_words image hints.words
-
-abbrev pub hints_reads : List (List ℕ) → Hints → ℕ
-hints_reads image hints = array_reads image hints.words

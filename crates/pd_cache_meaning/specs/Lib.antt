@@ -1,5 +1,4 @@
 pub mod Left
-pub mod SideArrays
 pub mod Rows
 pub mod Given
 pub mod Lengths

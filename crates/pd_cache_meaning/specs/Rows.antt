@@ -1,11 +1,39 @@
--- What is left of the valid mappings of a cache.
-use Rattle.std.specs.Prelude.{◌≡◌, ℕ, ◌+◌, ◌<◌, Bool, ◌==◌, ◌&&◌, not, true, if◌then◌else◌, List, [], Option, Some, None}
+-- The valid mappings of a cache, as rows.
+use Rattle.std.specs.Prelude.{◌≡◌, ℕ, ◌+◌, ◌-◌, ◌^◌, ◌<◌, min, Bool, ◌==◌, ◌&&◌, not, true, if◌then◌else◌, List, [], ◌∷◌, ◌++◌, drop, slice_index, Option, Some, None}
 use Rattle.pd_kinds.specs.CacheFormat.{CacheFields, has_dirty_bits}
-use Rattle.pd_tree.specs.ArrayCursor.{array_number, array_reads, array_words}
-use Rattle.pd_cache_meaning.specs.declared.side_arrays.CacheRow.{CacheRow}
-use Rattle.pd_cache_meaning.specs.declared.rows.CacheMaps.{CacheMaps}
-use Rattle.pd_cache_meaning.specs.Left.{bits_below, reads_of_root, words_below}
-use Rattle.pd_cache_meaning.specs.SideArrays.{side_reads, rows_beside, rows_of}
+use Rattle.pd_kinds.specs.Whole.{is_dirty_word, is_valid_word, origin_of_word}
+use Rattle.pd_cache_meaning.specs.declared.row.CacheRow.{CacheRow}
+use Rattle.pd_cache_meaning.specs.Left.{bits_below, words_below}
+
+-- whether a block is dirty: by the first of the bits where there are bits, else by its word
+abbrev pub is_dirty_by : Option (List ℕ) → ℕ → Bool
+is_dirty_by None word = is_dirty_word word
+is_dirty_by (Some bits) word = slice_index bits 0 == 1
+
+-- the bits behind so many
+abbrev pub bits_behind : ℕ → Option (List ℕ) → Option (List ℕ)
+bits_behind n None = None
+bits_behind n (Some bits) = Some (drop n bits)
+
+-- the number of the block behind so many, which stays at the end of its type
+abbrev pub block_after : ℕ → ℕ → ℕ
+block_after n block = min (block + n) (2 ^ 64 - 1)
+
+-- the row of a word, with the first hint and the first bit
+abbrev pub row_of : ℕ → ℕ → List ℕ → Option (List ℕ) → CacheRow
+row_of block word hints bits = record {
+  block = block;
+  origin = origin_of_word word;
+  dirty = is_dirty_by bits word;
+  hint = slice_index hints 0;
+}
+
+-- the rows of the valid words
+unfoldable pub rows_of : ℕ → List ℕ → List ℕ → Option (List ℕ) → List CacheRow
+rows_of block [] hints bits = []
+rows_of block (word ∷ words) hints bits =
+    (if is_valid_word word then row_of block word hints bits ∷ [] else [])
+    ++ rows_of (block_after 1 block) words (drop 1 hints) (bits_behind 1 bits)
 
 -- whether a cache has hints that are to be looked at
 abbrev pub has_hints : CacheFields → Bool
@@ -21,23 +49,6 @@ dirty_below image fields = if has_dirty_bits fields.version then Some (bits_belo
 -- the rows of the cache with this superblock
 abbrev pub rows_below : List (List ℕ) → CacheFields → List CacheRow
 rows_below image fields = rows_of 0 (words_below 8 image fields.mapping_root) (hints_below image fields) (dirty_below image fields)
-
--- how many blocks a cursor over them reads at most
-abbrev pub hints_reads_below : List (List ℕ) → CacheFields → ℕ
-hints_reads_below image fields = if has_hints fields then reads_of_root image fields.hint_root else 0
-
-abbrev pub dirty_reads_below : List (List ℕ) → CacheFields → ℕ
-dirty_reads_below image fields = if has_dirty_bits fields.version then reads_of_root image fields.dirty_root else 0
-
--- the rows that are left, how many reads they take at most, and a number that falls
-abbrev pub rows_left : List (List ℕ) → CacheMaps → List CacheRow
-rows_left image maps = rows_beside image maps.hints_and_dirty (array_words image maps.words)
-
-abbrev pub rows_reads : List (List ℕ) → CacheMaps → ℕ
-rows_reads image maps = array_reads image maps.words + side_reads image maps.hints_and_dirty
-
-abbrev pub rows_number : CacheMaps → ℕ
-rows_number maps = array_number maps.words
 
 -- the roots of a superblock that are read are below a number of blocks
 pub record RootsBelow (blocks : ℕ) (fields : CacheFields) : Type 0 where

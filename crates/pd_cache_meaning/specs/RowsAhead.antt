@@ -1,7 +1,7 @@
 -- What is left of the valid mappings of a cache, behind array blocks that may be passed.
 use Rattle.std.specs.Prelude.{◌≡◌, ℕ, ◌+◌, ◌*◌, List, [], ◌∷◌, Option, Some, None}
 use Rattle.pd_tree.specs.Cursor.{cursor_number}
-use Rattle.pd_cache_meaning.specs.declared.side_arrays.CacheRow.{CacheRow}
+use Rattle.pd_cache_meaning.specs.declared.row.CacheRow.{CacheRow}
 use Rattle.pd_cache_meaning.specs.declared.cache_rows.CacheRows.{CacheRows}
 use Rattle.pd_cache_meaning.specs.BlockWords.{block_words_number}
 use Rattle.pd_cache_meaning.specs.MapWords.{KnowsIdle, map_words}

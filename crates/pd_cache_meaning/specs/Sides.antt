@@ -1,10 +1,10 @@
 -- What stands beside the words of a mapping array, where many may be skipped.
-use Rattle.std.specs.Prelude.{◌≡◌, ℕ, ◌+◌, ◌-◌, ◌^◌, min, Bool, List, [], ◌∷◌, ◌++◌, drop, slice_index, Option, Some, None, IfSome}
-use Rattle.pd_cache_meaning.specs.declared.side_arrays.CacheRow.{CacheRow}
+use Rattle.std.specs.Prelude.{◌≡◌, ℕ, Bool, List, [], ◌∷◌, ◌++◌, drop, slice_index, Option, Some, None, IfSome}
+use Rattle.pd_cache_meaning.specs.declared.row.CacheRow.{CacheRow}
 use Rattle.pd_cache_meaning.specs.declared.skipped_bits.SkippedBits.{SkippedBits}
 use Rattle.pd_cache_meaning.specs.declared.skipped_hints.SkippedHints.{SkippedHints}
 use Rattle.pd_cache_meaning.specs.declared.sides.Sides.{Sides}
-use Rattle.pd_cache_meaning.specs.SideArrays.{is_dirty_by, row_of, rows_of}
+use Rattle.pd_cache_meaning.specs.Rows.{bits_behind, is_dirty_by, row_of, rows_of}
 use Rattle.pd_cache_meaning.specs.SkippedWords.{KnowsLengths, skipped_words}
 use Rattle.pd_cache_meaning.specs.SkippedBits.{skipped_bits}
 
@@ -26,15 +26,6 @@ KnowsBits image bits = IfSome bits (λ bits. KnowsLengths image bits.words)
 
 abbrev pub KnowsSides : List (List ℕ) → Sides → Type 0
 KnowsSides image sides = KnowsHints image sides.hints × KnowsBits image sides.bits
-
--- the bits behind so many
-abbrev pub bits_behind : ℕ → Option (List ℕ) → Option (List ℕ)
-bits_behind n None = None
-bits_behind n (Some bits) = Some (drop n bits)
-
--- the number of the block behind so many, which stays at the end of its type
-abbrev pub block_after : ℕ → ℕ → ℕ
-block_after n block = min (block + n) (2 ^ 64 - 1)
 
 -- the rows of these words, by what stands beside them
 abbrev pub rows_with : List (List ℕ) → Sides → List ℕ → List CacheRow

@@ -8,7 +8,7 @@ ghost use Rattle.pd_cache_meaning.specs.Rows.{rows_below};
 ghost use Rattle.pd_cache_meaning.specs.RowsAhead.{GivesWord, Knows, rows_ahead, rows_ahead_number};
 
 use crate::map_words::MapWords;
-use crate::side_arrays::CacheRow;
+use crate::row::CacheRow;
 use crate::sides::Sides;
 use pd_image::{Device, Failed};
 use pd_kinds::CacheSuper;

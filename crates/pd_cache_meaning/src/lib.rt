@@ -5,16 +5,12 @@
 //! in an image without faults: the cache's meaning.
 #![tactic(auto)]
 
-mod bits;
 mod block_words;
 mod cache_rows;
-mod hints;
 mod laws;
 mod lengths;
 mod map_words;
-mod optional;
-mod rows;
-mod side_arrays;
+mod row;
 mod sides;
 mod skipped_bits;
 mod skipped_hints;
@@ -22,5 +18,4 @@ mod skipped_words;
 
 pub use cache_rows::CacheRows;
 pub use laws::rows_are_the_entries;
-pub use rows::CacheMaps;
-pub use side_arrays::CacheRow;
+pub use row::CacheRow;

@@ -3,11 +3,10 @@
 ghost use Rattle.std.specs.Prelude.{◌≡◌, ℕ, ◌^◌, ◌<◌, ◌≤◌, List, IfOk, IfSome, OnOk};
 ghost use Rattle.pd_kinds.specs.Objects.{CountsFault};
 ghost use Rattle.pd_image.specs.Device.{IsAttached, OnlyReads};
-ghost use Rattle.pd_cache_meaning.specs.SideArrays.{rows_of};
-ghost use Rattle.pd_cache_meaning.specs.Rows.{dirty_below, hints_below};
-ghost use Rattle.pd_cache_meaning.specs.Sides.{Gives, IsFirstDirty, IsFirstHint, IsRow, KnowsBits, KnowsHints, KnowsSides, SkipsDirty, SkipsHints, SkipsSides, bits_ahead, block_after, hints_ahead, rows_with};
+ghost use Rattle.pd_cache_meaning.specs.Rows.{block_after, dirty_below, hints_below, rows_of};
+ghost use Rattle.pd_cache_meaning.specs.Sides.{Gives, IsFirstDirty, IsFirstHint, IsRow, KnowsBits, KnowsHints, KnowsSides, SkipsDirty, SkipsHints, SkipsSides, bits_ahead, hints_ahead, rows_with};
 
-use crate::side_arrays::CacheRow;
+use crate::row::CacheRow;
 use crate::skipped_bits::SkippedBits;
 use crate::skipped_hints::SkippedHints;
 use pd_image::{Device, Failed};

@@ -2,7 +2,7 @@
 use Rattle.std.specs.Prelude.{ℕ, ◌%◌, Bool, ◌==◌, ◌||◌, not, if◌then◌else◌, List, [], ◌∷◌, ◌++◌, map}
 use Rattle.pd_kinds.specs.CacheFormat.{CacheFields}
 use Rattle.pd_answers.specs.CachedView.{CachedBlock}
-use Rattle.pd_cache_meaning.specs.declared.side_arrays.CacheRow.{CacheRow}
+use Rattle.pd_cache_meaning.specs.declared.row.CacheRow.{CacheRow}
 use Rattle.pd_writeback.specs.declared.hot.HotBlock.{HotBlock}
 
 -- as a cached block of the definitions

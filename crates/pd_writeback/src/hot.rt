@@ -3,12 +3,13 @@
 ghost use Rattle.std.specs.Prelude.{◌≡◌, ◌++◌, List, OnOk, IfOk, IfSome};
 ghost use Rattle.std.specs.List.Sorted.{IsPermutation};
 ghost use Rattle.pd_image.specs.Device.{IsAttached, OnlyReads};
-ghost use Rattle.pd_cache_meaning.specs.Rows.{rows_below, rows_left};
+ghost use Rattle.pd_cache_meaning.specs.Rows.{rows_below};
+ghost use Rattle.pd_cache_meaning.specs.RowsAhead.{Knows, rows_ahead};
 ghost use Rattle.pd_writeback.specs.Failing.{CountsMeta};
 ghost use Rattle.pd_writeback.specs.Hot.{cached_all, hot_one, hot_rows, is_clean};
 
 use crate::fault::WriteFault;
-use pd_cache_meaning::CacheMaps;
+use pd_cache_meaning::CacheRows;
 use pd_image::Device;
 use pd_kinds::CacheSuper;
 use std::alloc::{AllocError, Global};
@@ -34,25 +35,26 @@ pub(crate) fn find_hot<A: Device>(
     ensures kept { OnlyReads (A.state meta.old) (A.state meta.new) }
     ensures faults { CountsMeta result (A.state meta.old).faults (A.state meta.new).faults }
 {
-    let mut maps = CacheMaps::start(alloc, s)?;
-    gather(alloc, &mut maps, s.flags % 2 == 1, meta)
+    let mut rows = CacheRows::start(alloc, meta.blocks(), s)?;
+    gather(alloc, &mut rows, s.flags % 2 == 1, meta)
 }
 
 /// The hot ones among the mappings that are left.
 fn gather<A: Device>(
     alloc: Global,
-    maps: &mut CacheMaps,
+    rows: &mut CacheRows,
     clean: bool,
     meta: &mut A,
 ) -> Result<Vec<HotBlock>, WriteFault>
     requires attached { IsAttached (A.state meta.old) }
-    ensures hot { IfOk result (λ hot. IfSome (A.state meta.old).held (λ image. cached_all hot.items ≡ hot_rows clean (rows_left image maps.old))) }
+    requires knows { IfSome (A.state meta.old).held (λ image. Knows image rows.old) }
+    ensures hot { IfOk result (λ hot. IfSome (A.state meta.old).held (λ image. cached_all hot.items ≡ hot_rows clean (rows_ahead image rows.old))) }
     ensures kept { OnlyReads (A.state meta.old) (A.state meta.new) }
     ensures faults { CountsMeta result (A.state meta.old).faults (A.state meta.new).faults }
 {
     let mut hot = Vec::new(alloc);
     loop {
-        let row = match maps.next(meta) {
+        let row = match rows.next(meta) {
             Ok(row) => row,
             Err(_) => return Err(WriteFault::Meta),
         };

@@ -5,9 +5,8 @@ use Rattle.pd_tree.specs.Cursor.{cursor_items}
 use Rattle.pd_tree.specs.Items.{root_of}
 use Rattle.pd_tree.specs.Next.{IsNext}
 use Rattle.pd_tree.proofs.NextLemmas.{if_both}
-use Rattle.pd_cache_meaning.proofs.TakeLemmas.{none_of}
 use Rattle.pd_writeback.specs.Places.{marks, names}
-use Rattle.pd_writeback.proofs.PlacesLemmas.{marks_next, marks_last}
+use Rattle.pd_writeback.proofs.PlacesLemmas.{marks_next, marks_last, none_of}
 use Rattle.pd_writeback.proofs.places.mark_named.Goals as goal
 
 pub loop-named-preserved : goal.loop-named-preserved
