@@ -17,7 +17,7 @@ use Rattle.pd_laws.proofs.CleanLemmas.{clean_super_where_none, whole_where_none}
 use Rattle.pd_grammar.specs.Texts.{text_of_lines}
 use Rattle.pd_spells.specs.CacheText.{Line, cache, cache_line, end_line, first_line, row_of, text_of_cache}
 use Rattle.pd_tree.specs.Roots.{HasCacheRoots}
-use Rattle.pd_cache_meaning.specs.declared.side_arrays.CacheRow.{CacheRow}
+use Rattle.pd_cache_meaning.specs.declared.row.CacheRow.{CacheRow}
 use Rattle.pd_cache_meaning.specs.Given.{GivesCache, entry_of}
 use Rattle.pd_cache_meaning.specs.Rows.{rows_below}
 use Rattle.pd_query.proofs.PutsLemmas.{two_told}

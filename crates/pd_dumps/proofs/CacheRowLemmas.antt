@@ -4,7 +4,7 @@ use Rattle.std.proofs.lemmas.List.Concat.{flat_map-append}
 use Rattle.pd_grammar.specs.Texts.{written}
 use Rattle.pd_spells.specs.CacheText.{Line, cache, end_line}
 use Rattle.pd_texts.specs.Printed.{end_text, text_of_line}
-use Rattle.pd_cache_meaning.specs.declared.side_arrays.CacheRow.{CacheRow}
+use Rattle.pd_cache_meaning.specs.declared.row.CacheRow.{CacheRow}
 use Rattle.pd_dumps.specs.CacheLines.{given_line, rest_text, rows_text}
 
 -- a row before others

@@ -1,5 +1,6 @@
 -- The lines of an era target: its runs, and what they come to without faults.
-use Rattle.std.proofs.Common.{◌≡◌, ℕ, ◌≤◌, List, [], ◌∷◌, ◌++◌, length, Option, IfSome, sym, ap, ◌∙◌, arith}
+use Rattle.std.proofs.Common.{◌≡◌, ℕ, ◌+◌, ◌≤◌, List, [], ◌∷◌, ◌++◌, length, map, Option, IfSome, refl, sym, ap, ◌∙◌, arith}
+use Rattle.std.proofs.lemmas.List.{map-id}
 use Rattle.std.proofs.lemmas.List.Concat.{flat_map-append}
 use Rattle.pd_kinds.specs.declared.kind.Kind.TheVariants.{Era}
 use Rattle.pd_kinds.specs.declared.kind.Stage.TheVariants.{Order, Walk, Whole}
@@ -8,16 +9,24 @@ use Rattle.pd_kinds.specs.Graph.{block_at}
 use Rattle.pd_kinds.specs.Meaning.{era_meaning}
 use Rattle.pd_kinds.specs.Stages.{HasCleanSuper, era_checked, faults}
 use Rattle.pd_laws.proofs.CleanLemmas.{clean_super_where_none}
-use Rattle.pd_grammar.specs.Texts.{written}
-use Rattle.pd_spells.specs.EraText.{Line, end_line, era, joined_eras, run_lines, text_of_era}
+use Rattle.pd_grammar.specs.Texts.{text_of_lines, written}
+use Rattle.pd_spells.specs.EraText.{Line, Stretch, end_line, era, joined_eras, run_lines, text_of_era}
 use Rattle.pd_texts.specs.Printed.{end_text}
 use Rattle.pd_era_meaning.specs.Eras.{GivesEras, eras_below}
 use Rattle.pd_query.proofs.PutsLemmas.{one_told, two_told}
-use Rattle.pd_dumps.specs.EraLines.{era_dump_text, rest_text, runs_text}
+use Rattle.pd_dumps.specs.EraLines.{era_dump_text, rest_text, run_text}
+use Rattle.pd_dumps.specs.Runs.{printed_from, runs_of}
+
+-- what is printed of the runs is their lines
+runs_are : (first : ℕ) (stretches : List Stretch) → printed_from run_text first stretches ≡ text_of_lines era (run_lines first stretches)
+runs_are first [] = refl
+runs_are first (s ∷ stretches) = ap (λ (xs : List ℕ). run_text first s.length s.era ++ xs) (runs_are (first + s.length) stretches)
 
 -- the lines of the runs, and the last one
-pub last_line : (eras : List ℕ) → rest_text eras ≡ runs_text (run_lines 0 (joined_eras eras)) ++ end_text
-last_line eras = flat_map-append (λ (line : Line). written era line ++ (10 ∷ [])) (run_lines 0 (joined_eras eras)) (end_line ∷ [])
+pub last_line : (eras : List ℕ) → rest_text eras ≡ runs_of run_text (map (λ (e : ℕ). e) eras) ++ end_text
+last_line eras =
+    flat_map-append (λ (line : Line). written era line ++ (10 ∷ [])) (run_lines 0 (joined_eras eras)) (end_line ∷ [])
+    ∙ ap (λ (xs : List ℕ). xs ++ end_text) (sym (ap (runs_of run_text) (map-id eras) ∙ runs_are 0 (joined_eras eras)))
 
 -- an image without faults has a block
 some_if_clean : (image : List (List ℕ)) → HasCleanSuper (era_checked image) image → 1 ≤ length image

@@ -3,5 +3,5 @@ pub mod CacheMeaningLemmas
 pub mod EraLemmas
 pub mod SinceLemmas
 pub mod PartLemmas
-pub mod EraRunLemmas
+pub mod OpenRunLemmas
 pub mod SinceRunLemmas

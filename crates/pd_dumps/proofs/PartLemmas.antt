@@ -1,7 +1,7 @@
 -- Text that is printed part by part, up to what is left of it.
-use Rattle.std.proofs.Common.{◌≡◌, ℕ, ◌+◌, ◌-◌, ◌^◌, ◌<◌, take, drop, length, Bool, true, false, List, [], ◌++◌, Option, None, Some, IfSome, Result, Ok, Err, refl, sym, ap, ◌∙◌, subst, append_assoc, arith}
+use Rattle.std.proofs.Common.{◌≡◌, ℕ, ◌+◌, ◌-◌, ◌^◌, ◌<◌, take, drop, length, map, Bool, true, false, List, [], ◌++◌, Option, None, Some, IfSome, Result, Ok, Err, refl, sym, ap, ◌∙◌, subst, append_assoc, arith}
 use Rattle.std.specs.Result.{IsErr}
-use Rattle.std.proofs.lemmas.List.{append-nil, drop-drop, length-drop, take-append-drop}
+use Rattle.std.proofs.lemmas.List.{append-nil, drop-drop, length-drop, map-append, take-append-drop}
 use Rattle.std.proofs.Math.Seq.{take-length}
 use Rattle.pd_lines.specs.Printing.{Begun, Printing, Prints}
 use Rattle.pd_lines.proofs.Printing.{begun_after, printed_both, printed_none}
@@ -15,11 +15,12 @@ use Rattle.pd_dumps.specs.Cut.{PrintsFront, PrintsUpTo}
 rest_from : (eras : List ℕ) (at : ℕ) → take (length eras - at) (drop at eras) ≡ drop at eras
 rest_from eras at = rw (← length-drop at eras) (take-length (drop at eras))
 
--- they are cut after some of them
-pub cut_at : (eras later : List ℕ) (at n : ℕ) → drop at eras ++ later ≡ take n (take (length eras - at) (drop at eras)) ++ (drop (at + n) eras ++ later)
-cut_at eras later at n = rw (rest_from eras at)
-    (ap (λ (xs : List ℕ). xs ++ later) (sym (take-append-drop n (drop at eras)) ∙ ap (λ (xs : List ℕ). take n (drop at eras) ++ xs) (drop-drop n at eras))
-    ∙ append_assoc (take n (drop at eras)) (drop (at + n) eras) later)
+-- what they count as is cut after some of them
+pub cut_at : (f : ℕ → ℕ) (eras later : List ℕ) (at n : ℕ) → map f (drop at eras) ++ later ≡ map f (take n (take (length eras - at) (drop at eras))) ++ (map f (drop (at + n) eras) ++ later)
+cut_at f eras later at n = rw (rest_from eras at)
+    (ap (λ (xs : List ℕ). map f xs ++ later) (sym (take-append-drop n (drop at eras)) ∙ ap (λ (xs : List ℕ). take n (drop at eras) ++ xs) (drop-drop n at eras))
+    ∙ (ap (λ (xs : List ℕ). xs ++ later) (map-append f (take n (drop at eras)) (drop (at + n) eras))
+    ∙ append_assoc (map f (take n (drop at eras))) (map f (drop (at + n) eras)) later))
 
 -- nothing was printed, and the same text is left
 pub front_none : {whole left : List ℕ} (now : Printing) → whole ≡ left → PrintsFront whole left now now
@@ -43,13 +44,14 @@ up_to_lost left (Ok done) failed begun = absurd (cc (failed))
 up_to_lost left (Err fault) failed begun = begun
 
 -- what is left of the eras where a part was taken, and where there was none
-pub part_taken : (held : Option (List (List ℕ))) {more : Bool} (old new : Eras) (part : List ℕ) → more ≡ true → part ≡ new.part.items → IfSome held (λ image. TakesPart image more old new)
-    → IfSome held (λ image. eras_left image old ≡ part ++ eras_left image new)
-part_taken held {more} old new part is same taken = one_told held
-    (λ image takes. (subst (λ (m : Bool). TakesPart image m old new) is takes).part ∙ ap (λ (xs : List ℕ). xs ++ eras_left image new) (sym same)) taken
+pub part_taken : (f : ℕ → ℕ) (held : Option (List (List ℕ))) {more : Bool} (old new : Eras) (part : List ℕ) → more ≡ true → part ≡ new.part.items → IfSome held (λ image. TakesPart image more old new)
+    → IfSome held (λ image. map f (eras_left image old) ≡ map f part ++ map f (eras_left image new))
+part_taken f held {more} old new part is same taken = one_told held
+    (λ image takes.
+    ap (map f) ((subst (λ (m : Bool). TakesPart image m old new) is takes).part ∙ ap (λ (xs : List ℕ). xs ++ eras_left image new) (sym same)) ∙ map-append f part (eras_left image new)) taken
 
-pub none_taken : (held : Option (List (List ℕ))) {more : Bool} (old new : Eras) → more ≡ false → IfSome held (λ image. TakesPart image more old new) → IfSome held (λ image. eras_left image old ≡ [])
-none_taken held {more} old new is taken = one_told held (λ image takes. (subst (λ (m : Bool). TakesPart image m old new) is takes).none) taken
+pub none_taken : (f : ℕ → ℕ) (held : Option (List (List ℕ))) {more : Bool} (old new : Eras) → more ≡ false → IfSome held (λ image. TakesPart image more old new) → IfSome held (λ image. map f (eras_left image old) ≡ [])
+none_taken f held {more} old new is taken = one_told held (λ image takes. ap (map f) (subst (λ (m : Bool). TakesPart image m old new) is takes).none) taken
 
 -- how many blocks are left then
 pub part_counted : {more : Bool} (old new : Eras) → more ≡ true → CountsPart more old new → CountsSome old new

@@ -4,5 +4,4 @@ pub mod EraLines
 pub mod EraDump
 pub mod SinceLines
 pub mod Cut
-pub mod EraRun
-pub mod SinceRun
+pub mod Runs

@@ -4,14 +4,13 @@ ghost use Rattle.std.specs.Prelude.{◌≡◌, ◌<◌, ◌^◌};
 ghost use Rattle.pd_image.specs.Device.{IsAttached, OnlyReads};
 ghost use Rattle.pd_lines.specs.Printer.{printing};
 ghost use Rattle.pd_spells.specs.EraText as e;
-ghost use Rattle.pd_spells.specs.EraText.{joined_eras, run_lines};
 ghost use Rattle.pd_era_texts.specs.EraLine.{line_of};
 ghost use Rattle.pd_era_meaning.specs.Parts.{blocks_left, eras_left};
 ghost use Rattle.pd_query.specs.Puts.{PrintsSome};
 ghost use Rattle.pd_query.specs.Failing.{QueryEnds};
-ghost use Rattle.pd_dumps.specs.EraLines.{era_dump_text, runs_text, super_head};
+ghost use Rattle.pd_dumps.specs.EraLines.{era_dump_text, run_text, super_head};
 
-use crate::era_run::EraRun;
+use crate::runs::{RunKind, add_runs};
 use pd_era_meaning::Eras;
 use pd_era_texts::EraLine;
 use pd_image::{Device, Sink};
@@ -32,25 +31,33 @@ fn era_line(s: &EraSuper) -> EraLine
     }
 }
 
-/// Prints the lines of the runs of the eras that are left, part by part.
-fn add_runs<D: Device, K: Sink>(
-    eras: &mut Eras,
-    dev: &mut D,
-    printer: &mut Printer<'_, K>,
-) -> Result<(), QueryFault>
-    requires few { blocks_left eras.old < 2 ^ 32 }
-    requires dev { IsAttached (D.state dev.old) }
-    requires open { (K.state printer.old.out.now).access ≡ 1 }
-    ensures same_reference { printer.new.out.ghost_name ≡ printer.old.out.ghost_name }
-    ensures prints { PrintsSome (D.state dev.old).held (λ image. runs_text (run_lines 0 (joined_eras (eras_left image eras.old)))) result (printing K.state printer.old) (printing K.state printer.new) }
-    ensures kept { OnlyReads (D.state dev.old) (D.state dev.new) }
-    ensures faults { QueryEnds result (D.state dev.old).faults (D.state dev.new).faults (K.state printer.old.out.now).faults (K.state printer.new.out.now).faults }
-{
-    let mut run = EraRun::none();
-    while eras.next(dev)? {
-        run.take(eras.part(), printer)?;
+/// Runs of blocks of one era, each with a line.
+#[derive(Drop)]
+struct RunsOfOneEra;
+
+impl RunKind for RunsOfOneEra {
+    ghost counts = { λ _ era. era };
+
+    ghost line = { λ _. run_text };
+
+    fn value(&self, era: u32) -> u32 {
+        era
     }
-    run.end(printer)
+
+    fn print<K: Sink>(
+        &self,
+        first: u32,
+        length: u32,
+        value: u32,
+        printer: &mut Printer<'_, K>,
+    ) -> Result<(), QueryFault> {
+        let line = EraLine::Run {
+            first,
+            length,
+            era: value,
+        };
+        print_text_line(&line, printer)
+    }
 }
 
 /// Prints the lines of an era target, from the first one to the last.
@@ -70,6 +77,6 @@ pub(crate) fn add_target<D: Device, K: Sink>(
 {
     print_line(bytes_of_first(Kind::Era), printer)?;
     print_text_line(&era_line(s), printer)?;
-    add_runs(eras, dev, printer)?;
+    add_runs(&RunsOfOneEra, eras, dev, printer)?;
     print_line(bytes_of_end(), printer)
 }

@@ -9,12 +9,11 @@ mod cache;
 mod cache_lines;
 mod era;
 mod era_lines;
-mod era_run;
 mod eras_given;
 mod laws;
+mod runs;
 mod since;
 mod since_lines;
-mod since_run;
 mod supers;
 
 pub use cache::{CacheDump, TextOfCache};

@@ -1,9 +1,10 @@
-use Rattle.std.proofs.Common.{rules, subst}
+use Rattle.std.proofs.Common.{rules, sym, subst}
 use Rattle.pd_lines.specs.Printer.{printing}
 use Rattle.pd_era_meaning.specs.Parts.{eras_left}
 use Rattle.pd_query.specs.Puts.{PutsText}
-use Rattle.pd_query.proofs.PutsLemmas.{text_finished, text_stopped}
+use Rattle.pd_query.proofs.PutsLemmas.{each_told, prints_told, text_finished, text_stopped}
 use Rattle.pd_dumps.specs.SinceLines.{since_text}
+use Rattle.pd_dumps.proofs.SinceRunLemmas.{all_lines}
 use Rattle.pd_dumps.proofs.since_lines.put_since.Goals as goal
 
 pub returns-clause-text : goal.returns-clause-text
@@ -11,11 +12,13 @@ returns-clause-text g c =
     let state = g.K.Sink.state in
     subst (λ out. PutsText (g.D.Device.state c.args.dev.now).held (λ image. since_text c.args.since (eras_left image c.args.eras.now)) c.finish.result (state c.args.out.now).written (state out).written) (search rules)
     (text_finished (g.D.Device.state c.args.dev.now).held c.finish.result {first = state c.args.out.now} {sink = state c.finish.new.printer.0}
-    (rw (c.to_sink-printer.ensures.none, c.to_sink-printer.ensures.same) at c.in_ok-add_since.ensures.prints) c.finish.ensures.finishes)
+    (prints_told (g.D.Device.state c.args.dev.now).held (each_told (g.D.Device.state c.args.dev.now).held (λ image. sym (all_lines c.args.since (eras_left image c.args.eras.now))))
+    (rw (c.to_sink-printer.ensures.none, c.to_sink-printer.ensures.same) at c.in_ok-add_runs.ensures.prints)) c.finish.ensures.finishes)
 
-pub returns-in_err-add_since-clause-text : goal.returns-in_err-add_since-clause-text
-returns-in_err-add_since-clause-text g c =
+pub returns-in_err-add_runs-clause-text : goal.returns-in_err-add_runs-clause-text
+returns-in_err-add_runs-clause-text g c =
     let state = g.K.Sink.state in
     subst (λ out. PutsText (g.D.Device.state c.args.dev.now).held (λ image. since_text c.args.since (eras_left image c.args.eras.now)) c.from_residual.result (state c.args.out.now).written (state out).written) (search rules)
-    (text_stopped (g.D.Device.state c.args.dev.now).held c.from_residual.result {first = state c.args.out.now} {mid = printing state c.add_since.new.printer} c.from_residual.ensures.0
-    (rw (c.to_sink-printer.ensures.none, c.to_sink-printer.ensures.same) at c.in_err-add_since.ensures.prints))
+    (text_stopped (g.D.Device.state c.args.dev.now).held c.from_residual.result {first = state c.args.out.now} {mid = printing state c.add_runs.new.printer} c.from_residual.ensures.0
+    (prints_told (g.D.Device.state c.args.dev.now).held (each_told (g.D.Device.state c.args.dev.now).held (λ image. sym (all_lines c.args.since (eras_left image c.args.eras.now))))
+    (rw (c.to_sink-printer.ensures.none, c.to_sink-printer.ensures.same) at c.in_err-add_runs.ensures.prints)))
