@@ -1,9 +1,2 @@
 pub mod PutsLemmas
-pub mod TextLemmas
-pub mod CountLemmas
-pub mod RunLemmas
-pub mod LeafTextLemmas
-pub mod WalkLemmas
 pub mod QueryLemmas
-pub mod SharedTextLemmas
-pub mod ShapeTextLemmas

@@ -1,13 +1,3 @@
 pub mod Puts
 pub mod Failing
-pub mod ThinText
-pub mod ThinDump
-pub mod Mapped
-pub mod Counts
 pub mod Sound
-pub mod SharedLines
-pub mod SharedDump
-pub mod RunsPrinted
-pub mod LeafText
-pub mod LeafLines
-pub mod DeviceWalk

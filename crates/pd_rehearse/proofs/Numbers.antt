@@ -15,8 +15,8 @@ use Rattle.pd_answers.specs.Rehearsals.{AreNumbersOf}
 use Rattle.pd_gen.specs.Pool.{device_mapping, generated_device, snapshot_mapping, generated_pool}
 use Rattle.pd_gen.specs.Lines.{generated_lines, part_of, run_of}
 use Rattle.pd_gen.proofs.Numbers.{feeds_are, feeds_of, lines_joined, lines_number, mappings_number}
-use Rattle.pd_query.specs.Counts.{IsCountOf}
-use Rattle.pd_query.specs.Mapped.{mappings_of_line}
+use Rattle.pd_pool_dumps.specs.Counts.{IsCountOf}
+use Rattle.pd_pool_dumps.specs.Mapped.{mappings_of_line}
 use Rattle.pd_rehearse.specs.declared.run.Rehearsal.{Rehearsal}
 use Rattle.pd_rehearse.specs.Rehearsed.{found_of}
 use Rattle.pd_rehearse.proofs.GeneratedShape.{generated_shape}

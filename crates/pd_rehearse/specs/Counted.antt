@@ -5,7 +5,7 @@ use Rattle.pd_kinds.specs.Meaning.{ThinPool}
 use Rattle.pd_kinds.specs.ThinSuper.{thin_fields}
 use Rattle.pd_spells.specs.ThinText.{head_of, joined_part, lines_of_parts}
 use Rattle.pd_thin_meaning.specs.Given.{super_lines}
-use Rattle.pd_query.specs.Counts.{IsCountOf}
+use Rattle.pd_pool_dumps.specs.Counts.{IsCountOf}
 use Rattle.pd_rehearse.specs.declared.run.Rehearsal.{Rehearsal}
 
 -- the numbers of an image: what its superblock says is used, and the counts of the lines that its cursors give

@@ -9,7 +9,8 @@ use crate::fault::RehearseFault;
 use crate::nowhere::Nowhere;
 use crate::run::Rehearsal;
 use pd_image::Device;
-use pd_query::{QueryFault, ThinDump};
+use pd_pool_dumps::ThinDump;
+use pd_query::QueryFault;
 use std::alloc::Global;
 
 /// Dumps the pool on the device to nowhere, and answers what the dump counted.

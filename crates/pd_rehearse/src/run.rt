@@ -14,7 +14,7 @@ use crate::restore::restore_text;
 use pd_image::Device;
 use pd_kinds::{CheckFault, Stage};
 use pd_laws::faults_are_none_where_clean;
-use pd_query::DumpCounts;
+use pd_pool_dumps::DumpCounts;
 use pd_thin::check_thin;
 use pd_thin_meaning::rows_are_the_devices;
 use std::alloc::Global;

@@ -10,7 +10,7 @@ use crate::whole_tests::{details_leaf, superblock};
 use pd_image::{Device, MemDevice, MemSink, Sink};
 use pd_kinds::Block;
 use pd_node::write_leaf;
-use pd_query::{DumpCounts, ThinDump};
+use pd_pool_dumps::{DumpCounts, ThinDump};
 use pd_samples::pool::{bitmap, damaged, pool_of_one_mapping};
 use pd_samples::runs::{Failing, NOTHING_FAILS, restored};
 use pd_samples::texts::{DEVICE, ONE, TWICE};

@@ -1,0 +1,20 @@
+use Rattle.std.proofs.Common.{rules, subst}
+use Rattle.pd_lines.specs.Printer.{printing}
+use Rattle.pd_query.specs.Puts.{PutsText}
+use Rattle.pd_pool_dumps.specs.SharedDump.{shared_text_left}
+use Rattle.pd_query.proofs.PutsLemmas.{text_finished, text_stopped}
+use Rattle.pd_pool_dumps.proofs.shared_dump.SharedDump.put.Goals as goal
+
+pub returns-clause-text : goal.returns-clause-text
+returns-clause-text g c =
+    let state = g.K.Sink.state in
+    subst (λ out. PutsText (g.D.Device.state c.args.dev.now).held (λ image. shared_text_left image c.args.self.now) c.finish.result (state c.args.out.now).written (state out).written) (search rules)
+    (text_finished (g.D.Device.state c.args.dev.now).held c.finish.result {first = state c.args.out.now} {sink = state c.finish.new.printer.0}
+    (rw (c.to_sink-printer.ensures.none, c.to_sink-printer.ensures.same) at c.in_ok-add_shared_pool.ensures.prints) c.finish.ensures.finishes)
+
+pub returns-in_err-add_shared_pool-clause-text : goal.returns-in_err-add_shared_pool-clause-text
+returns-in_err-add_shared_pool-clause-text g c =
+    let state = g.K.Sink.state in
+    subst (λ out. PutsText (g.D.Device.state c.args.dev.now).held (λ image. shared_text_left image c.args.self.now) c.from_residual.result (state c.args.out.now).written (state out).written) (search rules)
+    (text_stopped (g.D.Device.state c.args.dev.now).held c.from_residual.result {first = state c.args.out.now} {mid = printing state c.add_shared_pool.new.printer} c.from_residual.ensures.0
+    (rw (c.to_sink-printer.ensures.none, c.to_sink-printer.ensures.same) at c.in_err-add_shared_pool.ensures.prints))

@@ -1,0 +1,20 @@
+use Rattle.std.proofs.Common.{◌≡◌, drop}
+use Rattle.pd_grammar.specs.Texts.{text_of_lines}
+use Rattle.pd_image.specs.Device.{OnlyReads}
+use Rattle.pd_lines.specs.Printer.{printing}
+use Rattle.pd_spells.specs.ThinText.{thin}
+use Rattle.pd_shared_leaves.specs.Leaves.{shared_blocks}
+use Rattle.pd_pool_dumps.specs.SharedLines.{leaves_lines}
+use Rattle.pd_query.proofs.PutsLemmas.{PrintsSoFar}
+use Rattle.pd_pool_dumps.proofs.shared_lines.add_leaves.Given as goal
+
+abbrev pub invariant-loop-number : goal.invariant-loop-number
+invariant-loop-number g l = record {
+  same_reference : l.printer.out.ghost_name ≡ l.initial.printer.out.ghost_name;
+  so_far : PrintsSoFar (g.D.Device.state l.initial.dev).held (λ image. text_of_lines thin (leaves_lines image 0 (shared_blocks l.initial.shared)))
+      (λ image. text_of_lines thin (leaves_lines image l.number (drop l.number (shared_blocks l.initial.shared))))
+      (printing g.K.Sink.state l.initial.printer) (printing g.K.Sink.state l.printer);
+  kept : OnlyReads (g.D.Device.state l.initial.dev) (g.D.Device.state l.dev);
+  dev_faults : (g.D.Device.state l.dev).faults ≡ (g.D.Device.state l.initial.dev).faults;
+  out_faults : (g.K.Sink.state l.printer.out.now).faults ≡ (g.K.Sink.state l.initial.printer.out.now).faults;
+}

@@ -1,5 +1,0 @@
-use Rattle.pd_query.proofs.CountLemmas.{count_both}
-use Rattle.pd_query.proofs.counts.DumpCounts.add.Goals as goal
-
-pub returns : goal.returns
-returns c = count_both c.args.self.now _ c.args.other.now c.saturating_add-self.ensures c.saturating_add-self-2.ensures

@@ -1,7 +1,0 @@
-use Rattle.std.proofs.Common.{refl}
-use Rattle.pd_spells.specs.ThinText.{first_line}
-use Rattle.pd_query.proofs.CountLemmas.{count_plain}
-use Rattle.pd_query.proofs.counts.DumpCounts.count_first.Goals as goal
-
-pub returns : goal.returns
-returns c = count_plain _ _ first_line refl c.saturating_add-self.ensures refl

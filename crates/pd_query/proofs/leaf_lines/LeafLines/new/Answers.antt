@@ -1,5 +1,0 @@
-use Rattle.pd_query.proofs.LeafTextLemmas.{taken_none}
-use Rattle.pd_query.proofs.leaf_lines.LeafLines.new.Goals as goal
-
-pub returns : goal.returns
-returns c = taken_none c.new-2.result c.new.result c.none.result c.new-2.ensures c.new.ensures c.none.ensures
