@@ -4,3 +4,4 @@ pub mod NodeLemmas
 pub mod LevelLemmas
 pub mod JudgeLemmas
 pub mod SeenLemmas
+pub mod WholeLemmas

@@ -3,13 +3,13 @@ use Rattle.std.proofs.Common.{◌≡◌, ℕ, List, sym}
 use Rattle.std.specs.List.{AllByRecursion}
 use Rattle.pd_kinds.specs.Graph.{Graph, is_reached}
 use Rattle.pd_kinds.specs.Layout.{Layout}
-use Rattle.pd_laws.proofs.AllLemmas.{all_from, all_from_two}
+use Rattle.pd_laws.proofs.AllLemmas.{all_from}
 use Rattle.pd_graph.specs.declared.audit.Audit.{Audit}
 use Rattle.pd_graph.specs.Watch.{no_pairs}
 use Rattle.pd_whole.specs.Known.{IsKnown}
 use Rattle.pd_arrays.specs.declared.roles.ArrayRoles.{ArrayRoles}
 use Rattle.pd_arrays.specs.declared.marks.ArrayMarks.{ArrayMarks}
-use Rattle.pd_arrays.specs.Arrays.{AreAllCounted, AreAllShown, AreCounted, HasWords, KeepsBlocks}
+use Rattle.pd_arrays.specs.Arrays.{AreAllCounted, AreAllShown, AreCounted, HasWords}
 
 -- none
 pub none_shown : (layout : ℕ → Layout) (image : List (List ℕ)) (marks : ArrayMarks) → AreAllShown layout image no_pairs marks
@@ -24,11 +24,3 @@ shown_counted graph image audit layout kinds marks known have shown =
       blocks = λ b there.
           (shown kind has).blocks b there.found (λ other low found. sym (known.alone b kind.blocks other there (record { block = there.block; within = low; found = found })));
     }) kinds have
-
--- while nodes in a role are marked that is none of their blocks'
-pub counted_kept : (graph : Graph) (image : List (List ℕ)) (audit : Audit) (roles : ArrayRoles) (kinds : List ArrayRoles) (old new : ArrayMarks)
-    → IsKnown graph image audit → KeepsBlocks audit roles old new → AllByRecursion (λ (kind : ArrayRoles). roles.nodes ≡ kind.blocks → ⊥) kinds
-    → AreAllCounted kinds graph image old → AreAllCounted kinds graph image new
-counted_kept graph image audit roles kinds old new known keeps =
-    all_from_two (λ (kind : ArrayRoles). roles.nodes ≡ kind.blocks → ⊥) (λ (kind : ArrayRoles). AreCounted graph image kind old)
-    (λ (kind : ArrayRoles). AreCounted graph image kind new) (λ kind apart counted. keeps graph image kind known apart counted) kinds

@@ -16,11 +16,9 @@ use Rattle.pd_graph.specs.Roles.{has_bit}
 use Rattle.pd_whole.specs.Refs.{number_in}
 use Rattle.pd_tree.specs.Below.{nodes_below}
 use Rattle.pd_tree.specs.TreeRoles.{IsTreeRole}
-use Rattle.pd_whole.specs.Charges.{Charges}
 use Rattle.pd_whole.specs.Known.{IsKnown}
 use Rattle.pd_whole.specs.Reached.{AreReachedOnce, InRole, blocks_in, known_in}
 use Rattle.pd_arrays.specs.Arrays.{HasWords}
-use Rattle.pd_check.specs.Whole.{IsOrdered}
 use Rattle.pd_cache.specs.Whole.{IsReady, arrays, arrays_reads, origin_reads, tests_named}
 
 -- the number of blocks in a role
@@ -90,16 +88,6 @@ unfolding cache_graph
 graph_is first fields same = ap (λ (f : CacheFields). graph_of 12 f.meta_map.blocks 0 (cache_layout f.meta_map.blocks)) same
 
 -- the rules of the whole image
-whole_is : (image : List (List ℕ)) (first : List ℕ) → block_at image 0 ≡ first → (checked_of Cache image).whole ≡ tests_named (cache_graph first) image (cache_fields first)
+pub whole_is : (image : List (List ℕ)) (first : List ℕ) → block_at image 0 ≡ first → (checked_of Cache image).whole ≡ tests_named (cache_graph first) image (cache_fields first)
 unfolding cache_checked cache_whole cache_arrays tests_named
 whole_is image first same = subst (λ (f : List ℕ). (checked_of Cache image).whole ≡ tests_named (cache_graph f) image (cache_fields f)) same refl
-
--- are charged by the superblock's fields and format
-pub super_charged : (image : List (List ℕ)) (first : List ℕ) (fields : CacheFields) (graph : Graph) (old new : Audit) → fields ≡ cache_fields first → graph ≡ cache_graph first
-    → ((first : List ℕ) (image : List (List ℕ)) (audit : Audit) → IsOrdered Cache first image audit → IsReady (cache_graph first) image audit (cache_fields first))
-    → (IsReady graph image old fields → Charges (tests_named graph image fields) old new) → IsOrdered Cache first image old
-    → Charges (checked_of Cache image).whole old new
-super_charged image first fields graph old new same is ready charged ordered =
-    let by_graph = subst (λ (g : Graph). IsReady g image old fields → Charges (tests_named g image fields) old new) is charged in
-    let by_fields = subst (λ (f : CacheFields). IsReady (cache_graph first) image old f → Charges (tests_named (cache_graph first) image f) old new) same by_graph in
-    subst (λ (ts : List WholeTest). Charges ts old new) (sym (whole_is image first ordered.first_block)) (by_fields (ready first image old ordered))

@@ -1,5 +1,5 @@
 -- The rules of a whole cache, one after another.
-use Rattle.std.proofs.Common.{◌≡◌, ℕ, Bool, List, [], ◌∷◌, ◌++◌, map, filter, Option, IfSome, refl, sym, ap, ◌∙◌, subst, arith, append_assoc, append-nil}
+use Rattle.std.proofs.Common.{◌≡◌, ℕ, Bool, List, [], ◌∷◌, ◌++◌, map, filter, Option, IfSome, refl, sym, ap, ◌∙◌, subst, arith, append-nil}
 use Rattle.std.specs.List.{flat_map, AllByRecursion}
 use Rattle.std.proofs.lemmas.Grind.{flat_map-append}
 use Rattle.std.proofs.lemmas.List.{map-append}
@@ -10,8 +10,7 @@ use Rattle.pd_kinds.specs.Node.{Entry}
 use Rattle.pd_kinds.specs.CacheFormat.{CacheFields}
 use Rattle.pd_kinds.specs.Stages.{IsReached}
 use Rattle.pd_kinds.specs.Trees.{entries_below, block_words, words_of}
-use Rattle.pd_kinds.specs.Whole.{Array, WholeTest, array_whole, has_repeat, is_valid_word, optional_array, origin_of_word}
-use Rattle.pd_array.specs.Word.{size_of}
+use Rattle.pd_kinds.specs.Whole.{Array, WholeTest, has_repeat, is_valid_word, origin_of_word}
 use Rattle.pd_value.specs.declared.thin.Root.{Root}
 use Rattle.pd_laws.proofs.AllLemmas.{all_from, all_mapped}
 use Rattle.pd_graph.specs.declared.audit.Audit.{Audit}
@@ -19,16 +18,12 @@ use Rattle.pd_graph.specs.Audit.{KeepsButRules}
 use Rattle.pd_whole.proofs.RefsLemmas.{if_then}
 use Rattle.pd_tree.specs.Items.{item_of, root_of}
 use Rattle.pd_whole.specs.Charges.{Charges}
-use Rattle.pd_whole.proofs.ChargeLemmas.{charges_then}
 use Rattle.pd_whole.proofs.KnownLemmas.{known_stays}
-use Rattle.pd_arrays.specs.declared.roles.ArrayRoles.{ArrayRoles}
-use Rattle.pd_arrays.specs.declared.marks.ArrayMarks.{ArrayMarks}
-use Rattle.pd_arrays.specs.Arrays.{AreAllCounted, AreCounted, HasArrays, KeepsBlocks, array_of}
+use Rattle.pd_arrays.specs.Arrays.{HasArrays}
 use Rattle.pd_arrays.proofs.ReadLemmas.{kind_stays}
-use Rattle.pd_arrays.proofs.SeenLemmas.{counted_kept}
 use Rattle.pd_cache.specs.Words.{block_origins, origins_in}
 use Rattle.pd_cache.specs.Meeting.{IsMapBlock, blocks_named}
-use Rattle.pd_cache.specs.Whole.{IsKnownCache, IsReady, arrays, arrays_reads, discards, dirty_bits, hints, mappings, origin_test}
+use Rattle.pd_cache.specs.Whole.{IsKnownCache, IsReady, arrays_reads, discards, dirty_bits, hints, mappings, origin_test}
 
 -- what is known of a cache stays while rules are added
 pub ready_stays : (graph : Graph) (image : List (List ℕ)) (fields : CacheFields) (old new : Audit) → IsReady graph image old fields → KeepsButRules old new → IsReady graph image new fields
@@ -50,40 +45,16 @@ has_discards graph image audit cache = record { known = cache.known; ordered = c
 pub has_dirty_bits : (graph : Graph) (image : List (List ℕ)) (audit : Audit) → IsKnownCache graph image audit → HasArrays graph image audit dirty_bits
 has_dirty_bits graph image audit cache = record { known = cache.known; ordered = cache.ordered; tree = cache.trees.dirty_bits; apart = λ same. omega arith }
 
--- rules that are charged where a fact holds, and then others where what follows holds
-pub charged_then : (held later : Option (List (List ℕ))) (P Q : List (List ℕ) → Type 0) (xs ys : List (List ℕ) → List WholeTest) (a b c : Audit) → later ≡ held
-    → ((image : List (List ℕ)) → P image → KeepsButRules a b → Q image)
-    → IfSome held (λ image. P image → Charges (xs image) a b) → IfSome later (λ image. Q image → Charges (ys image) b c)
-    → IfSome held (λ image. P image → Charges (xs image ++ ys image) a c)
-charged_then held later P Q xs ys a b c same leads first second =
-    if_then held later (λ image. P image → Charges (xs image) a b) (λ image. Q image → Charges (ys image) b c) (λ image. P image → Charges (xs image ++ ys image) a c) same
-    (λ image x y p. let here = x p in charges_then (xs image) (ys image) a b c here (y (leads image p here.kept)))
-    first second
+-- facts over a told image and over what is told of it later
+pub if_both : {X : Type 0} → (o later : Option X) (P Q : X → Type 0) → later ≡ o → IfSome o P → IfSome later Q → IfSome o (λ x. P x × Q x)
+if_both o later P Q same = if_then o later P Q (λ x. P x × Q x) same (λ x p q. (p, q))
 
 -- the tests of all arrays
 pub arrays_tests : (f : Array → List WholeTest) (m : Array) (h d y : List Array)
-    → ((f m ++ flat_map f h) ++ flat_map f d) ++ flat_map f y ≡ f m ++ flat_map f (h ++ (d ++ y))
+    → f m ++ (flat_map f h ++ (flat_map f d ++ flat_map f y)) ≡ f m ++ flat_map f (h ++ (d ++ y))
 arrays_tests f m h d y =
-    append_assoc (f m ++ flat_map f h) (flat_map f d) (flat_map f y)
-    ∙ (append_assoc (f m) (flat_map f h) (flat_map f d ++ flat_map f y)
-    ∙ ap (λ (ts : List WholeTest). f m ++ ts)
-    (sym (flat_map-append f h (d ++ y) ∙ ap (λ (ts : List WholeTest). flat_map f h ++ ts) (flat_map-append f d y))))
-
--- what a call charged for roles and a number that it was given
-pub kind_charged : (held : Option (List (List ℕ))) (graph : Graph) (a b : Audit) (marks : ArrayMarks) (given roles : ArrayRoles) (root words n : ℕ) → given ≡ roles → words ≡ n
-    → IfSome held (λ image. HasArrays graph image a given → AreCounted graph image given marks → IsReached graph image root given.nodes
-    → Charges (array_whole graph image (array_of given root (words ∷ []))) a b)
-    → IfSome held (λ image. HasArrays graph image a roles → AreCounted graph image roles marks → IsReached graph image root roles.nodes
-    → Charges (array_whole graph image (array_of roles root (n ∷ []))) a b)
-kind_charged held graph a b marks given roles root words n same is charged =
-    subst (λ (k : ArrayRoles). IfSome held (λ image. HasArrays graph image a k → AreCounted graph image k marks → IsReached graph image root k.nodes
-    → Charges (array_whole graph image (array_of k root (n ∷ []))) a b)) same
-    (subst (λ (m : ℕ). IfSome held (λ image. HasArrays graph image a given → AreCounted graph image given marks → IsReached graph image root given.nodes
-    → Charges (array_whole graph image (array_of given root (m ∷ []))) a b)) is charged)
-
--- one array is a list of arrays
-pub one_array : (f : Array → List WholeTest) (a : Array) (old new : Audit) → Charges (f a) old new → Charges (flat_map f (a ∷ [])) old new
-one_array f a old new = subst (λ (ts : List WholeTest). Charges ts old new) (sym (append-nil (f a)))
+    ap (λ (ts : List WholeTest). f m ++ ts)
+    (sym (flat_map-append f h (d ++ y) ∙ ap (λ (ts : List WholeTest). flat_map f h ++ ts) (flat_map-append f d y)))
 
 -- how much is read stays
 pub arrays_stay : (old new : Audit) → KeepsButRules old new → arrays_reads new ≡ arrays_reads old
@@ -123,26 +94,3 @@ origin_charged graph image old new root repeated items has are reached says =
     let found = says (subst (λ (bs : List ℕ). AllByRecursion (IsMapBlock old) bs) (sym blocks) each) in
     subst (λ (fails : Bool). Charges (record { block = root; rule = r.Origin; fails = fails } ∷ []) old new)
     (found ∙ ap has_repeat (ap (origins_in image) blocks ∙ origins_of image entries))
-
-pub optional_charged : (held : Option (List (List ℕ))) (graph : Graph) (a b : Audit) (marks : ArrayMarks) (given roles : ArrayRoles) (root : ℕ) → given ≡ roles
-    → IfSome held (λ image. HasArrays graph image a given → AreCounted graph image given marks → ((root ≡ 0 → ⊥) → IsReached graph image root given.nodes)
-    → Charges (flat_map (array_whole graph image) (optional_array given.nodes root (size_of given.word) [])) a b)
-    → IfSome held (λ image. HasArrays graph image a roles → AreCounted graph image roles marks → ((root ≡ 0 → ⊥) → IsReached graph image root roles.nodes)
-    → Charges (flat_map (array_whole graph image) (optional_array roles.nodes root (size_of roles.word) [])) a b)
-optional_charged held graph a b marks given roles root same =
-    subst (λ (k : ArrayRoles). IfSome held (λ image. HasArrays graph image a k → AreCounted graph image k marks → ((root ≡ 0 → ⊥) → IsReached graph image root k.nodes)
-    → Charges (flat_map (array_whole graph image) (optional_array k.nodes root (size_of k.word) [])) a b)) same
-
--- what is known of a cache and of the marks of its arrays' blocks
-abbrev pub IsCounted : Graph → List (List ℕ) → CacheFields → Audit → ArrayMarks → Type 0
-IsCounted graph image fields audit marks = IsReady graph image audit fields × AreAllCounted arrays graph image marks
-
--- stays while nodes of one kind are marked and rules are added
-pub counted_stays : (graph : Graph) (image : List (List ℕ)) (fields : CacheFields) (old new : Audit) (before after : ArrayMarks) (given roles : ArrayRoles) → given ≡ roles
-    → AllByRecursion (λ (kind : ArrayRoles). roles.nodes ≡ kind.blocks → ⊥) arrays → KeepsBlocks old given before after → KeepsButRules old new
-    → IsCounted graph image fields old before → IsCounted graph image fields new after
-counted_stays graph image fields old new before after given roles same apart keeps kept counted = (
-  ready_stays graph image fields old new counted.0 kept,
-  counted_kept graph image old roles arrays before after counted.0.cache.known
-      (subst (λ (k : ArrayRoles). KeepsBlocks old k before after) same keeps) apart counted.1,
-)

@@ -8,7 +8,7 @@ ghost use Rattle.pd_image.specs.Device.{IsAttached, OnlyReads};
 ghost use Rattle.pd_graph.specs.Audit.{blocks_of};
 ghost use Rattle.pd_whole.specs.Refs.{number_in};
 ghost use Rattle.pd_tree.specs.Below.{items_below, nodes_below};
-ghost use Rattle.pd_tree.specs.Cursor.{cursor_nodes, cursor_room};
+ghost use Rattle.pd_tree.specs.Cursor.{cursor_nodes};
 ghost use Rattle.pd_tree.specs.Items.{root_of};
 ghost use Rattle.pd_cache.specs.Words.{origins_in};
 ghost use Rattle.pd_cache.specs.Origins.{places_of};
@@ -80,7 +80,6 @@ fn gather<D: Device>(
     requires places { places_of origins.old ≡ blocks_of audit.now }
     requires within { blocks_of audit.now ≤ (D.state dev.old).blocks }
     requires in_role { AreMapBlocks audit.now origins.old }
-    requires room { cursor_room entries.old ≤ (D.state dev.old).blocks }
     ensures met { OnOk result (IfSome (D.state dev.old).held (λ image. AllByRecursion (IsMapBlock audit.now) (blocks_left image entries.old)
         → AreMet image [] origins.old → AreMet image (blocks_left image entries.old) origins.new)) }
     ensures reads { IfSome (D.state dev.old).held (λ image. (D.state dev.new).reads + seen_number origins.old

@@ -19,11 +19,9 @@ use Rattle.pd_graph.specs.Roles.{has_bit}
 use Rattle.pd_whole.specs.Refs.{number_in}
 use Rattle.pd_tree.proofs.RootLemmas.{at_optional}
 use Rattle.pd_tree.proofs.TableLemmas.{none_passes}
-use Rattle.pd_whole.specs.Charges.{Charges}
 use Rattle.pd_whole.specs.Known.{IsKnown}
 use Rattle.pd_whole.specs.Reached.{AreReachedOnce, InRole, blocks_in, known_in}
 use Rattle.pd_arrays.specs.Arrays.{HasWords}
-use Rattle.pd_check.specs.Whole.{IsOrdered}
 use Rattle.pd_era.specs.Whole.{IsReady, IsSnap, arrays, arrays_named, snap_reads, tests_named, whole_reads}
 
 -- the number of blocks in a role
@@ -143,16 +141,6 @@ unfolding era_graph
 graph_is first fields same = ap (λ (f : EraFields). graph_of 10 f.meta_map.blocks 0 (era_layout f.meta_map.blocks)) same
 
 -- the rules of the whole image
-whole_is : (image : List (List ℕ)) (first : List ℕ) → block_at image 0 ≡ first → (checked_of Era image).whole ≡ tests_named (era_graph first) image (era_fields first)
+pub whole_is : (image : List (List ℕ)) (first : List ℕ) → block_at image 0 ≡ first → (checked_of Era image).whole ≡ tests_named (era_graph first) image (era_fields first)
 unfolding era_checked era_whole era_arrays tests_named arrays_named
 whole_is image first same = subst (λ (f : List ℕ). (checked_of Era image).whole ≡ tests_named (era_graph f) image (era_fields f)) same refl
-
--- are charged by the superblock's fields and format
-pub super_charged : (image : List (List ℕ)) (first : List ℕ) (fields : EraFields) (graph : Graph) (old new : Audit) → fields ≡ era_fields first → graph ≡ era_graph first
-    → ((first : List ℕ) (image : List (List ℕ)) (audit : Audit) → IsOrdered Era first image audit → IsReady (era_graph first) image audit (era_fields first))
-    → (IsReady graph image old fields → Charges (tests_named graph image fields) old new) → IsOrdered Era first image old
-    → Charges (checked_of Era image).whole old new
-super_charged image first fields graph old new same is ready charged ordered =
-    let by_graph = subst (λ (g : Graph). IsReady g image old fields → Charges (tests_named g image fields) old new) is charged in
-    let by_fields = subst (λ (f : EraFields). IsReady (era_graph first) image old f → Charges (tests_named (era_graph first) image f) old new) same by_graph in
-    subst (λ (ts : List WholeTest). Charges ts old new) (sym (whole_is image first ordered.first_block)) (by_fields (ready first image old ordered))

@@ -42,23 +42,3 @@ arrays_tests graph image fields =
     let current = current_bits fields.current_bits fields.current_root in
     let sets = map set_array (reached_writesets graph image) in
     ap (λ (ts : List WholeTest). flat_map f first ++ ts) (sym (flat_map-append f current sets)) ∙ sym (flat_map-append f first (current ++ sets))
-
--- one array is a list of arrays
-pub one_array : (f : Array → List WholeTest) (a : Array) (old new : Audit) → Charges (f a) old new → Charges (flat_map f (a ∷ [])) old new
-one_array f a old new = subst (λ (ts : List WholeTest). Charges ts old new) (sym (append-nil (f a)))
-
--- what a call charged for roles and a root that it was given
-pub eras_charged : (graph : Graph) (image : List (List ℕ)) (a b : Audit) (marks : ArrayMarks) (given : ArrayRoles) (root right : ℕ) (lengths : List ℕ) → given ≡ eras → root ≡ right
-    → (HasArrays graph image a given → AreMarked graph image given marks → IsReached graph image root given.nodes → Charges (array_whole graph image (array_of given root lengths)) a b)
-    → HasArrays graph image a eras → AreMarked graph image eras marks → IsReached graph image right 5 → Charges (array_whole graph image (array_of eras right lengths)) a b
-eras_charged graph image a b marks given root right lengths same is charged =
-    subst (λ (r : ℕ). HasArrays graph image a eras → AreMarked graph image eras marks → IsReached graph image r 5 → Charges (array_whole graph image (array_of eras r lengths)) a b) is
-    (subst (λ (k : ArrayRoles). HasArrays graph image a k → AreMarked graph image k marks → IsReached graph image root k.nodes → Charges (array_whole graph image (array_of k root lengths)) a b) same charged)
-
--- and for a number of words
-pub words_charged : (graph : Graph) (image : List (List ℕ)) (a b : Audit) (marks : ArrayMarks) (given : ArrayRoles) (root words n : ℕ) → given ≡ eras → words ≡ n
-    → (HasArrays graph image a given → AreMarked graph image given marks → IsReached graph image root given.nodes → Charges (array_whole graph image (array_of given root (words ∷ []))) a b)
-    → HasArrays graph image a eras → AreMarked graph image eras marks → IsReached graph image root 5 → Charges (array_whole graph image (array_of eras root (n ∷ []))) a b
-words_charged graph image a b marks given root words n same is charged =
-    subst (λ (m : ℕ). HasArrays graph image a eras → AreMarked graph image eras marks → IsReached graph image root 5 → Charges (array_whole graph image (array_of eras root (m ∷ []))) a b) is
-    (eras_charged graph image a b marks given root root (words ∷ []) same refl charged)

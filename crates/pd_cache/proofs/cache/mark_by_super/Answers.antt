@@ -1,11 +1,14 @@
 use Rattle.std.proofs.Common.{ℕ, sym, ap, ◌∙◌, subst, arith}
+use Rattle.pd_kinds.specs.declared.kind.Kind.TheVariants.{Cache}
 use Rattle.pd_kinds.specs.CacheFormat.{CacheFields, cache_fields, cache_graph, cache_layout}
 use Rattle.pd_kinds.specs.Graph.{Graph, is_reached}
+use Rattle.pd_kinds.specs.Stages.{checked_of}
 use Rattle.pd_whole.proofs.RefsLemmas.{if_maps, ok_maps}
 use Rattle.pd_arrays.specs.Arrays.{AreAllShown}
+use Rattle.pd_arrays.proofs.WholeLemmas.{super_charged}
 use Rattle.pd_cache.specs.Room.{IsRoomFor}
-use Rattle.pd_cache.specs.Whole.{arrays, origin_reads}
-use Rattle.pd_cache.proofs.ReadyLemmas.{blocks_are, graph_is, have_words, super_charged}
+use Rattle.pd_cache.specs.Whole.{IsReady, arrays, origin_reads, tests_named}
+use Rattle.pd_cache.proofs.ReadyLemmas.{blocks_are, graph_is, have_words, whole_is}
 use Rattle.pd_cache.proofs.cache.mark_by_super.Goals as goal
 
 pub of-format-requires-clause-some : goal.of-format-requires-clause-some
@@ -32,11 +35,12 @@ returns-clause-charges g c =
     let graph = c.of-format.ensures ∙ graph_is first c.read_cache_super-fields.result c.read_cache_super-fields.ensures in
     ok_maps c.mark_cache.result _ _ (λ charges.
     if_maps (g.D.Device.state c.args.dev.now).held _ _ (λ image charged ordered shown.
-    super_charged image first c.read_cache_super-fields.result _ c.args.audit.now c.mark_cache.new.audit c.read_cache_super-fields.ensures graph c.ordered_caches_are_ready.ensures
+    super_charged (λ (graph : Graph) (fields : CacheFields). IsReady graph image c.args.audit.now fields) (λ (graph : Graph) (fields : CacheFields). tests_named graph image fields) (checked_of Cache image).whole
+    c.read_cache_super-fields.result (cache_fields first) _ (cache_graph first) c.args.audit.now c.mark_cache.new.audit c.read_cache_super-fields.ensures graph
+    (whole_is image first ordered.first_block) (c.ordered_caches_are_ready.ensures first image c.args.audit.now ordered)
     (λ ready. charged ready
     (c.shown_blocks_are_counted.ensures _ image c.args.audit.now (cache_layout 0) arrays marks ready.cache.known have_words
-    (subst (λ (g : Graph). AreAllShown (cache_layout 0) image (is_reached g image) marks) (sym graph) shown)))
-    ordered) charges) c.mark_cache.ensures.charges
+    (subst (λ (g : Graph). AreAllShown (cache_layout 0) image (is_reached g image) marks) (sym graph) shown)))) charges) c.mark_cache.ensures.charges
 
 pub returns-clause-reads : goal.returns-clause-reads
 returns-clause-reads g c =

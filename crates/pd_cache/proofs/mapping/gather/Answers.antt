@@ -52,7 +52,6 @@ loop-named-preserved g c =
       reads =
           if_then held (g.D.Device.state c.loop-named.dev).held _ _ _ c.loop-named.invariant.kept.held
           (λ image before read. omega (arith, before, read, c.in_ok-meet.ensures.reads)) c.loop-named.invariant.reads c.in_ok-named.ensures.reads;
-      room = omega (arith, c.next.ensures.room);
       in_role = c.meet.ensures.in_role;
       places = c.meet.ensures.places ∙ c.loop-named.invariant.places;
       kept = only_reads_both (only_reads_both c.loop-named.invariant.kept c.next.ensures.kept) c.meet.ensures.kept;

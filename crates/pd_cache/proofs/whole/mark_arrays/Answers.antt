@@ -1,14 +1,14 @@
 use Rattle.std.proofs.Common.{◌++◌, [], ◌∷◌, ℕ, List, ap, ◌∙◌, subst, arith}
 use Rattle.std.specs.List.{flat_map}
 use Rattle.pd_kinds.specs.Whole.{WholeTest, array_whole, optional_array}
-use Rattle.pd_whole.proofs.RefsLemmas.{if_maps, ok_maps}
+use Rattle.pd_whole.proofs.RefsLemmas.{if_then, ok_maps}
 use Rattle.pd_whole.specs.Charges.{Charges}
-use Rattle.pd_whole.proofs.ChargeLemmas.{keeps_both}
+use Rattle.pd_whole.proofs.ChargeLemmas.{charges_then, keeps_both}
 use Rattle.pd_arrays.specs.Arrays.{array_of}
 use Rattle.pd_arrays.specs.KindReads.{kind_reads}
 use Rattle.pd_arrays.proofs.ReadLemmas.{kind_stays}
 use Rattle.pd_cache.specs.Whole.{discards, dirty_arrays, dirty_bits, hints, mappings}
-use Rattle.pd_cache.proofs.WholeLemmas.{IsCounted, arrays_tests, charged_then, counted_stays, has_dirty_bits, has_discards, has_hints, has_mappings, kind_charged, optional_charged}
+use Rattle.pd_cache.proofs.WholeLemmas.{arrays_tests, has_dirty_bits, has_discards, has_hints, has_mappings, if_both, ready_stays}
 use Rattle.pd_cache.proofs.whole.mark_arrays.Goals as goal
 
 pub returns-in_err-mark_optional-clause-reads : goal.returns-in_err-mark_optional-clause-reads
@@ -64,52 +64,39 @@ returns-clause-charges g c =
     let d = c.mark_optional.new.audit in
     let e = c.mark_optional-2.new.audit in
     let f = c.mark_dirty_bits.new.audit in
-    let m = c.args.marks.now in
-    let n = c.mark_array.new.marks in
-    let o = c.mark_optional.new.marks in
-    let p = c.mark_optional-2.new.marks in
     let held = (g.D.Device.state c.args.dev.now).held in
-    let to_b = λ (image : List (List ℕ)) (known : IsCounted graph image fields a m).
-    counted_stays graph image fields a b m n c.mappings.result mappings c.mappings.ensures ((λ same. omega arith), ((λ same. omega arith), ((λ same. omega arith), ((λ same. omega arith), tt)))) c.mark_array.ensures.blocks c.mark_array.ensures.rules known in
-    let to_d = λ (image : List (List ℕ)) (known : IsCounted graph image fields a m).
-    counted_stays graph image fields b d n o c.hints.result hints c.hints.ensures ((λ same. omega arith), ((λ same. omega arith), ((λ same. omega arith), ((λ same. omega arith), tt)))) c.mark_optional.ensures.blocks c.mark_optional.ensures.rules (to_b image known) in
-    let to_e = λ (image : List (List ℕ)) (known : IsCounted graph image fields a m).
-    counted_stays graph image fields d e o p c.discards.result discards c.discards.ensures ((λ same. omega arith), ((λ same. omega arith), ((λ same. omega arith), ((λ same. omega arith), tt)))) c.mark_optional-2.ensures.blocks c.mark_optional-2.ensures.rules (to_d image known) in
-    let first =
-    if_maps held _ (λ image. IsCounted graph image fields a m → Charges (array_whole graph image (array_of mappings fields.mapping_root (fields.blocks ∷ []))) a b)
-    (λ image charged known. charged (has_mappings graph image a known.0.cache) known.1.0 known.0.roots.mappings)
-    (kind_charged held graph a b m c.mappings.result mappings fields.mapping_root c.from-words.result fields.blocks c.mappings.ensures c.from-words.ensures c.in_ok-mark_array.ensures.charges) in
-    let second =
-    if_maps (g.D.Device.state c.mark_array.new.dev).held _
-    (λ image. IsCounted graph image fields b n → Charges (flat_map (array_whole graph image) (optional_array 3 fields.hint_root 4 [])) b d)
-    (λ image charged known. charged (has_hints graph image b known.0.cache) known.1.1.0 known.0.roots.hints)
-    (optional_charged (g.D.Device.state c.mark_array.new.dev).held graph b d n c.hints.result hints fields.hint_root c.hints.ensures c.in_ok-mark_optional.ensures.charges) in
-    let third =
-    if_maps (g.D.Device.state c.mark_optional.new.dev).held _
-    (λ image. IsCounted graph image fields d o → Charges (flat_map (array_whole graph image) (optional_array 5 fields.discard_root 8 [])) d e)
-    (λ image charged known. charged (has_discards graph image d known.0.cache) known.1.1.1.0 known.0.roots.discards)
-    (optional_charged (g.D.Device.state c.mark_optional.new.dev).held graph d e o c.discards.result discards fields.discard_root c.discards.ensures c.in_ok-mark_optional-2.ensures.charges) in
-    let two =
-    charged_then held (g.D.Device.state c.mark_array.new.dev).held (λ image. IsCounted graph image fields a m) (λ image. IsCounted graph image fields b n)
-    (λ image. array_whole graph image (array_of mappings fields.mapping_root (fields.blocks ∷ []))) (λ image. flat_map (array_whole graph image) (optional_array 3 fields.hint_root 4 []))
-    a b d c.mark_array.ensures.kept.held (λ image known kept. to_b image known) first second in
-    let three =
-    charged_then held (g.D.Device.state c.mark_optional.new.dev).held (λ image. IsCounted graph image fields a m) (λ image. IsCounted graph image fields d o)
-    (λ image. array_whole graph image (array_of mappings fields.mapping_root (fields.blocks ∷ [])) ++ flat_map (array_whole graph image) (optional_array 3 fields.hint_root 4 []))
-    (λ image. flat_map (array_whole graph image) (optional_array 5 fields.discard_root 8 []))
-    a d e (c.mark_optional.ensures.kept.held ∙ c.mark_array.ensures.kept.held) (λ image known kept. to_d image known) two third in
+    let to_b = rw c.mappings.ensures at c.mark_array.ensures.blocks in
+    let to_d = rw c.hints.ensures at c.mark_optional.ensures.blocks in
+    let to_e = rw c.discards.ensures at c.mark_optional-2.ensures.blocks in
+    let first = rw c.from-words.ensures at (rw c.mappings.ensures at c.in_ok-mark_array.ensures.charges) in
+    let second = rw c.hints.ensures at c.in_ok-mark_optional.ensures.charges in
+    let third = rw c.discards.ensures at c.in_ok-mark_optional-2.ensures.charges in
+    let still = c.mark_optional.ensures.kept.held ∙ c.mark_array.ensures.kept.held in
     ok_maps c.mark_dirty_bits.result _ _ (λ charges.
-    let fourth =
-    if_maps (g.D.Device.state c.mark_optional-2.new.dev).held _ (λ image. IsCounted graph image fields e p → Charges (flat_map (array_whole graph image) (dirty_arrays fields)) e f)
-    (λ image charged known. charged (has_dirty_bits graph image e known.0.cache) known.1.1.1.1.0 known.0.roots.dirty_bits) charges in
-    if_maps held _ _
-    (λ image charged ready counted.
-    subst (λ (ts : List WholeTest). Charges ts a f)
-    (arrays_tests (array_whole graph image) (array_of mappings fields.mapping_root (fields.blocks ∷ [])) (optional_array 3 fields.hint_root 4 []) (optional_array 5 fields.discard_root 8 []) (dirty_arrays fields))
-    (charged (ready, counted)))
-    (charged_then held (g.D.Device.state c.mark_optional-2.new.dev).held (λ image. IsCounted graph image fields a m) (λ image. IsCounted graph image fields e p)
-    (λ image. (array_whole graph image (array_of mappings fields.mapping_root (fields.blocks ∷ [])) ++ flat_map (array_whole graph image) (optional_array 3 fields.hint_root 4 []))
-    ++ flat_map (array_whole graph image) (optional_array 5 fields.discard_root 8 []))
-    (λ image. flat_map (array_whole graph image) (dirty_arrays fields))
-    a e f (c.mark_optional-2.ensures.kept.held ∙ (c.mark_optional.ensures.kept.held ∙ c.mark_array.ensures.kept.held)) (λ image known kept. to_e image known) three fourth))
-    c.mark_dirty_bits.ensures.charges
+    if_then held (g.D.Device.state c.mark_optional-2.new.dev).held _ _ _ (c.mark_optional-2.ensures.kept.held ∙ still)
+    (λ image charged last ready counted.
+    let tests = array_whole graph image in
+    let mapped = array_of mappings fields.mapping_root (fields.blocks ∷ []) in
+    let hinted = optional_array 3 fields.hint_root 4 [] in
+    let discarded = optional_array 5 fields.discard_root 8 [] in
+    let dirty = dirty_arrays fields in
+    let ready_b = ready_stays graph image fields a b ready c.mark_array.ensures.rules in
+    let ready_d = ready_stays graph image fields b d ready_b c.mark_optional.ensures.rules in
+    let ready_e = ready_stays graph image fields d e ready_d c.mark_optional-2.ensures.rules in
+    let hints_b = to_b graph image hints ready.cache.known (λ same. omega arith) counted.1.0 in
+    let discards_b = to_b graph image discards ready.cache.known (λ same. omega arith) counted.1.1.0 in
+    let discards_d = to_d graph image discards ready_b.cache.known (λ same. omega arith) discards_b in
+    let bits_b = to_b graph image dirty_bits ready.cache.known (λ same. omega arith) counted.1.1.1.0 in
+    let bits_d = to_d graph image dirty_bits ready_b.cache.known (λ same. omega arith) bits_b in
+    let bits_e = to_e graph image dirty_bits ready_d.cache.known (λ same. omega arith) bits_d in
+    subst (λ (ts : List WholeTest). Charges ts a f) (arrays_tests tests mapped hinted discarded dirty)
+    (charges_then (tests mapped) (flat_map tests hinted ++ (flat_map tests discarded ++ flat_map tests dirty)) a b f
+    (charged.0.0 (has_mappings graph image a ready.cache) counted.0 ready.roots.mappings)
+    (charges_then (flat_map tests hinted) (flat_map tests discarded ++ flat_map tests dirty) b d f
+    (charged.0.1 (has_hints graph image b ready_b.cache) hints_b ready.roots.hints)
+    (charges_then (flat_map tests discarded) (flat_map tests dirty) d e f
+    (charged.1 (has_discards graph image d ready_d.cache) discards_d ready.roots.discards)
+    (last (has_dirty_bits graph image e ready_e.cache) bits_e ready.roots.dirty_bits)))))
+    (if_both held (g.D.Device.state c.mark_optional.new.dev).held _ _ still
+    (if_both held (g.D.Device.state c.mark_array.new.dev).held _ _ c.mark_array.ensures.kept.held first second) third)
+    charges) c.mark_dirty_bits.ensures.charges

@@ -5,7 +5,7 @@ use Rattle.pd_whole.proofs.RefsLemmas.{if_all, if_maps, ok_maps}
 use Rattle.pd_whole.proofs.ChargeLemmas.{charges_none}
 use Rattle.pd_arrays.specs.Arrays.{array_of}
 use Rattle.pd_cache.specs.Whole.{dirty_bits}
-use Rattle.pd_cache.proofs.WholeLemmas.{one_array}
+use Rattle.pd_arrays.proofs.WholeLemmas.{one_array}
 use Rattle.pd_cache.proofs.whole.mark_dirty_bits.Goals as goal
 
 pub returns-then-has_bits-clause-charges : goal.returns-then-has_bits-clause-charges

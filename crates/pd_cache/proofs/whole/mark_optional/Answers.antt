@@ -4,7 +4,7 @@ use Rattle.pd_kinds.specs.Whole.{array_whole}
 use Rattle.pd_whole.proofs.RefsLemmas.{if_all, if_maps, ok_maps}
 use Rattle.pd_whole.proofs.ChargeLemmas.{charges_none}
 use Rattle.pd_arrays.specs.Arrays.{array_of}
-use Rattle.pd_cache.proofs.WholeLemmas.{one_array}
+use Rattle.pd_arrays.proofs.WholeLemmas.{one_array}
 use Rattle.pd_cache.proofs.whole.mark_optional.Goals as goal
 
 pub returns-then-root-eq0-clause-charges : goal.returns-then-root-eq0-clause-charges

@@ -1,10 +1,13 @@
 use Rattle.std.proofs.Common.{sym, ap, subst, ◌∙◌, arith}
+use Rattle.pd_kinds.specs.declared.kind.Kind.TheVariants.{Era}
 use Rattle.pd_kinds.specs.EraFormat.{EraFields, era_fields, era_graph, era_layout}
 use Rattle.pd_kinds.specs.Graph.{Graph, is_reached}
+use Rattle.pd_kinds.specs.Stages.{checked_of}
 use Rattle.pd_whole.proofs.RefsLemmas.{if_all, ok_maps, if_maps}
 use Rattle.pd_arrays.specs.Arrays.{AreAllShown}
-use Rattle.pd_era.specs.Whole.{arrays, whole_reads}
-use Rattle.pd_era.proofs.ReadyLemmas.{blocks_are, graph_is, have_words, super_charged}
+use Rattle.pd_arrays.proofs.WholeLemmas.{super_charged}
+use Rattle.pd_era.specs.Whole.{IsReady, arrays, tests_named, whole_reads}
+use Rattle.pd_era.proofs.ReadyLemmas.{blocks_are, graph_is, have_words, whole_is}
 use Rattle.pd_era.proofs.era.mark_by_super.Goals as goal
 
 pub of-format-requires-clause-some : goal.of-format-requires-clause-some
@@ -31,11 +34,12 @@ returns-clause-charges g c =
     let graph = c.of-format.ensures ∙ graph_is first c.read_era_super-fields.result c.read_era_super-fields.ensures in
     ok_maps c.mark_era.result _ _ (λ charges.
     if_maps (g.D.Device.state c.args.dev.now).held _ _ (λ image charged ordered shown.
-    super_charged image first c.read_era_super-fields.result _ c.args.audit.now c.mark_era.new.audit c.read_era_super-fields.ensures graph c.ordered_eras_are_ready.ensures
+    super_charged (λ (graph : Graph) (fields : EraFields). IsReady graph image c.args.audit.now fields) (λ (graph : Graph) (fields : EraFields). tests_named graph image fields) (checked_of Era image).whole
+    c.read_era_super-fields.result (era_fields first) _ (era_graph first) c.args.audit.now c.mark_era.new.audit c.read_era_super-fields.ensures graph
+    (whole_is image first ordered.first_block) (c.ordered_eras_are_ready.ensures first image c.args.audit.now ordered)
     (λ ready. charged ready
     (c.shown_blocks_are_counted.ensures _ image c.args.audit.now (era_layout 0) arrays marks ready.era.known have_words
-    (subst (λ (g : Graph). AreAllShown (era_layout 0) image (is_reached g image) marks) (sym graph) shown)))
-    ordered) charges) c.mark_era.ensures.charges
+    (subst (λ (g : Graph). AreAllShown (era_layout 0) image (is_reached g image) marks) (sym graph) shown)))) charges) c.mark_era.ensures.charges
 
 pub returns-clause-reads : goal.returns-clause-reads
 returns-clause-reads g c =

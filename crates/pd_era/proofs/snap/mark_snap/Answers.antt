@@ -8,7 +8,7 @@ use Rattle.pd_whole.proofs.RefsLemmas.{if_all, if_maps}
 use Rattle.pd_whole.proofs.ChargeLemmas.{charges_none}
 use Rattle.pd_arrays.specs.Arrays.{array_of}
 use Rattle.pd_era.specs.Whole.{eras}
-use Rattle.pd_era.proofs.WholeLemmas.{eras_charged, one_array}
+use Rattle.pd_arrays.proofs.WholeLemmas.{one_array}
 use Rattle.pd_era.proofs.snap.mark_snap.Goals as goal
 
 pub returns-then-snap-eq0-clause-charges : goal.returns-then-snap-eq0-clause-charges
@@ -25,7 +25,7 @@ returns-clause-charges g c =
     let here : block_at image c.args.snap ≡ c.read.new.into.0 = ap (λ (o : Option (List ℕ)). unwrap_or o []) told in
     let root : c.read_era_super-root.result.array_root ≡ (era_fields (block_at image c.args.snap)).array_root =
     ap (λ (f : EraFields). f.array_root) (c.read_era_super-root.ensures ∙ ap era_fields (sym here)) in
+    let charged = rw root at (rw c.eras.ensures at (c.check_array.ensures.charges graph image)) in
     rw (ne_eqb c.args.snap 0 c.if-snap-eq0.false)
     (one_array (array_whole graph image) (array_of eras (era_fields (block_at image c.args.snap)).array_root []) a b
-    (eras_charged graph image a b c.args.marks.now c.eras.result c.read_era_super-root.result.array_root (era_fields (block_at image c.args.snap)).array_root [] c.eras.ensures root
-    (c.check_array.ensures.charges graph image) has marked snap.eras))) c.in_ok-read.ensures.content
+    (charged has marked snap.eras))) c.in_ok-read.ensures.content

@@ -7,7 +7,7 @@ use Rattle.pd_arrays.specs.Arrays.{array_of}
 use Rattle.pd_arrays.specs.KindReads.{kind_reads}
 use Rattle.pd_arrays.proofs.JudgeLemmas.{arrays_stay}
 use Rattle.pd_era.specs.Whole.{eras, snap_eras}
-use Rattle.pd_era.proofs.WholeLemmas.{has_eras, words_charged}
+use Rattle.pd_era.proofs.WholeLemmas.{has_eras}
 use Rattle.pd_era.proofs.whole.mark_eras.Goals as goal
 
 pub returns-clause-charges : goal.returns-clause-charges
@@ -24,9 +24,9 @@ returns-clause-charges g c =
     (λ image marks_told snap_charged ready counted.
     let has = has_eras graph image a ready.era in
     let marked = marks_told has counted in
+    let charged = rw c.from-words.ensures at (rw c.eras-2.ensures at (c.check_array.ensures.charges graph image)) in
     charges_then (array_whole graph image (array_of eras fields.array_root (fields.blocks ∷ []))) (flat_map (array_whole graph image) (snap_eras image fields.snap_root)) a b d
-    (words_charged graph image a b c.fill_marks.new.marks c.eras-2.result fields.array_root c.from-words.result fields.blocks c.eras-2.ensures c.from-words.ensures
-    (c.check_array.ensures.charges graph image) has marked ready.roots.eras)
+    (charged has marked ready.roots.eras)
     (snap_charged graph (arrays_stay graph image a b eras c.check_array.ensures.rules has) marked ready.snap))
     filled charges) c.mark_snap.ensures.charges
 
