@@ -16,7 +16,7 @@ mod shared;
 mod shared_repairs;
 mod shrinks;
 mod targets;
-mod words;
+pub mod words;
 mod writebacks;
 
 pub use cache_repairs::{
@@ -60,19 +60,5 @@ pub use shrinks::{
 pub use targets::{
     crashed_restore_leaves_no_other_target, restored_target_dump_means_the_same,
     restored_target_is_clean, sound_targets_are_lawful,
-};
-pub use words::{
-    cache_check_tells_clean, cache_check_tells_what_passes, cache_dump_puts_the_text,
-    cache_repair_makes_what_is_saved, cache_restore_makes_the_cache,
-    cache_writeback_leaves_nothing_dirty, checks_clear_the_flag_alone, checks_let_leaks_pass,
-    era_check_tells_clean, era_dump_puts_the_text, era_invalidate_puts_the_written_blocks,
-    era_restore_makes_the_target, thin_check_lets_leaks_pass_and_clears, thin_check_tells_clean,
-    thin_check_tells_clean_and_clears, thin_dump_puts_the_text, thin_generate_puts_its_text,
-    thin_ls_puts_the_devices, thin_rehearse_makes_its_pool, thin_repair_finds_the_roots,
-    thin_repair_finds_the_sharing, thin_repair_keeps_the_sharing, thin_repair_makes_what_is_saved,
-    thin_repair_saves_from_named_roots, thin_repair_sees_sharing, thin_repair_tells_the_states,
-    thin_restore_is_asked, thin_restore_makes_the_pool, thin_rmap_puts_the_mappings,
-    thin_shared_dump_puts_the_shape, thin_shrink_keeps_the_sharing,
-    thin_shrink_makes_the_pool_smaller,
 };
 pub use writebacks::{stopped_writeback_keeps_the_view, written_back_cache_is_clean};

@@ -12,7 +12,7 @@ ghost use Rattle.pd_words.specs.Words.{read_as, answer_as, word_of, words_of, Ar
 
 use crate::forms::tool_named;
 use crate::items::are_items_of;
-use crate::numbers::{Region, number, number_up_to, read_region};
+use crate::numbers::{Region, number_up_to, read_region};
 use crate::repairs::{
     read_dry_named, read_dry_repair, read_dry_search, read_named_repair, read_repair, read_search,
 };
@@ -21,7 +21,7 @@ use crate::table::{
     BLOCKS, CLEAR, DATA, FAST, FILE, IMAGE, INPUT, METADATA, NUMBER, ORIGIN, OUTPUT, PASSING,
     REGION, SHARED, SINCE, TEXT, Tool, UNTIL, VERSION,
 };
-use crate::values::{flag, optional, required};
+use crate::values::{flag, optional, required, required_number};
 use pd_kinds::{Flagged, Kind, Passing, Stage};
 
 /// The request that the words spell, without the program's own name.
@@ -232,21 +232,14 @@ fn read_since(words: &[String]) -> Option<Request>
     ensures asked { read_as (map string_bytes words.now) result ≡ words_spec.request_of tools_spec.since_tool (items_in (map string_bytes words.now)) }
     ensures names { IfSome result (AreNames (length words.now)) }
 {
-    let era = era_named(words, required(words, SINCE)?)?;
+    let era = required_number(words, u32::MAX as u64, SINCE)?;
     let out = optional(words, FILE)?;
     let image = required(words, IMAGE)?;
-    Some(Request::Since { era, image, out })
-}
-
-/// The era that a word names.
-fn era_named(words: &[String], name: Name) -> Option<u32>
-    requires { IsName (length words.now) name }
-    ensures { result ≡ words_spec.number_below (2 ^ 32) (word_of (map string_bytes words.now) name) }
-{
-    match number_up_to(u32::MAX as u64, name.word_in(words)) {
-        None => None,
-        Some(era) => Some(era as u32),
-    }
+    Some(Request::Since {
+        era: era as u32,
+        image,
+        out,
+    })
 }
 
 /// The region that a word names.
@@ -305,7 +298,7 @@ fn read_shrink(words: &[String]) -> Option<Request>
     let input = required(words, INPUT)?;
     let output = required(words, OUTPUT)?;
     let pool = required(words, DATA)?;
-    let blocks = number_named(words, required(words, BLOCKS)?)?;
+    let blocks = required_number(words, u64::MAX, BLOCKS)?;
     Some(Request::Shrink {
         input,
         output,
@@ -313,14 +306,6 @@ fn read_shrink(words: &[String]) -> Option<Request>
         pool,
         blocks,
     })
-}
-
-/// The number that a word names.
-fn number_named(words: &[String], name: Name) -> Option<u64>
-    requires { IsName (length words.now) name }
-    ensures { result ≡ words_spec.number_below (2 ^ 64) (word_of (map string_bytes words.now) name) }
-{
-    number(name.word_in(words))
 }
 
 /// The number from 1 to 10000 that a word is.

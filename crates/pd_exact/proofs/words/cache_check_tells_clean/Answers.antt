@@ -1,7 +1,16 @@
 use Rattle.pd_kinds.specs.declared.kind.Kind.TheVariants.{Cache}
 use Rattle.pd_exact.proofs.Asked.{answered_for}
-use Rattle.pd_exact.proofs.AskedLemmas.{cache_check_asked}
+use Rattle.std.proofs.Common.{◌≡◌, ℕ, List, [], ◌∷◌, Some, refl}
+use Rattle.std.specs.Prelude.{codes}
+use Rattle.pd_kinds.specs.declared.kind.Stage.TheVariants.{Counts}
+use Rattle.pd_answers.specs.Requests.{check}
+use Rattle.pd_answers.specs.Words.{is_flag, items_of, given, version_of, tool_in, request_of, asked}
+use Rattle.pd_exact.specs.Words.{IsName}
 use Rattle.pd_exact.proofs.words.cache_check_tells_clean.Goals as goal
+
+cache_check_asked : (image : List ℕ) → IsName image → asked (codes "cache_check" ∷ image ∷ []) ≡ Some (check Cache Counts image)
+unfolding is_flag items_of given version_of tool_in request_of asked
+cache_check_asked image is_image = rw is_image refl
 
 pub returns : goal.returns
 returns c = λ image before after status is_image ends.

@@ -1,11 +1,19 @@
-use Rattle.std.proofs.Common.{refl}
+use Rattle.std.proofs.Common.{refl, ◌≡◌, ℕ, List, [], ◌∷◌, ◌++◌, Option, Some, None, IfSome}
 use Rattle.pd_kinds.specs.declared.kind.Kind.TheVariants.{Cache}
 use Rattle.pd_kinds.specs.Meaning.{cache_meaning}
 use Rattle.pd_spells.specs.CacheText.{SpellsCache}
 use Rattle.pd_answers.specs.QueryLines.{image_text, text}
 use Rattle.pd_exact.proofs.Asked.{answered_for, puts, puts_text}
-use Rattle.pd_exact.proofs.AskedLemmas.{cache_dump_asked}
+use Rattle.std.specs.Prelude.{codes}
+use Rattle.pd_answers.specs.Requests.{query}
+use Rattle.pd_answers.specs.Words.{is_flag, items_of, given, version_of, tool_in, request_of, asked}
+use Rattle.pd_exact.specs.Words.{IsName, to_file}
 use Rattle.pd_exact.proofs.words.cache_dump_puts_the_text.Goals as goal
+
+cache_dump_asked : (file : Option (List ℕ)) (image : List ℕ) → IfSome file IsName → IsName image → asked (codes "cache_dump" ∷ (to_file file ++ (image ∷ []))) ≡ Some (query (text Cache) file image)
+unfolding is_flag items_of given version_of tool_in request_of asked
+cache_dump_asked None image is_file is_image = rw (is_image) refl
+cache_dump_asked (Some file) image is_file is_image = rw (is_file, is_image) refl
 
 pub returns : goal.returns
 returns c = λ file image before after is_file is_image ends.

@@ -1,6 +1,15 @@
 use Rattle.pd_exact.proofs.Asked.{answered_for}
-use Rattle.pd_exact.proofs.AskedLemmas.{cache_writeback_asked}
+use Rattle.std.proofs.Common.{◌≡◌, ℕ, List, [], ◌∷◌, Some, refl}
+use Rattle.std.specs.Prelude.{codes}
+use Rattle.pd_answers.specs.Requests.{writeback}
+use Rattle.pd_answers.specs.Words.{is_flag, items_of, given, version_of, tool_in, request_of, asked}
+use Rattle.pd_exact.specs.Words.{IsName}
 use Rattle.pd_exact.proofs.words.cache_writeback_leaves_nothing_dirty.Goals as goal
+
+cache_writeback_asked : (metadata fast origin : List ℕ) → IsName metadata → IsName fast → IsName origin
+    → asked (codes "cache_writeback" ∷ codes "--metadata-device" ∷ metadata ∷ codes "--fast-device" ∷ fast ∷ codes "--origin-device" ∷ origin ∷ []) ≡ Some (writeback metadata fast origin)
+unfolding is_flag items_of given version_of tool_in request_of asked
+cache_writeback_asked metadata fast origin is_metadata is_fast is_origin = rw (is_metadata, is_fast, is_origin) refl
 
 pub returns : goal.returns
 returns c = λ metadata fast origin before after status is_metadata is_fast is_origin ends.

@@ -1,6 +1,18 @@
 use Rattle.pd_exact.proofs.Asked.{answered_for}
-use Rattle.pd_exact.proofs.AskedLemmas.{passing_asked}
+use Rattle.std.proofs.Common.{◌≡◌, ℕ, List, [], ◌∷◌, Some, refl}
+use Rattle.std.specs.Prelude.{codes}
+use Rattle.pd_kinds.specs.declared.kind.Kind.{Kind}
+use Rattle.pd_kinds.specs.declared.kind.Kind.TheVariants.{Thin, Cache, Era}
+use Rattle.pd_answers.specs.Requests.{passing_check}
+use Rattle.pd_answers.specs.Words.{is_flag, items_of, given, version_of, tool_in, request_of, asked}
+use Rattle.pd_exact.specs.Words.{IsName, check_name}
 use Rattle.pd_exact.proofs.words.checks_let_leaks_pass.Goals as goal
+
+passing_asked : (kind : Kind) (image : List ℕ) → IsName image → asked (check_name kind ∷ codes "--ignore-non-fatal-errors" ∷ image ∷ []) ≡ Some (passing_check kind image)
+unfolding is_flag items_of given version_of tool_in request_of asked
+passing_asked Thin image is_image = rw is_image refl
+passing_asked Cache image is_image = rw is_image refl
+passing_asked Era image is_image = rw is_image refl
 
 pub returns-clause-tells : goal.returns-clause-tells
 returns-clause-tells c = λ kind image before after status is_image ends.

@@ -1,7 +1,16 @@
-use Rattle.std.proofs.Common.{arith}
+use Rattle.std.proofs.Common.{arith, ◌≡◌, ℕ, List, ◌∷◌, Option, Some, None, IfSome, refl}
 use Rattle.pd_exact.proofs.Asked.{answered_for}
-use Rattle.pd_exact.proofs.AskedLemmas.{thin_generate_asked}
+use Rattle.std.specs.Prelude.{codes}
+use Rattle.pd_answers.specs.Requests.{generate}
+use Rattle.pd_answers.specs.Words.{is_flag, items_of, given, version_of, generated_number, tool_in, request_of, asked}
+use Rattle.pd_exact.specs.Words.{IsName, to_file}
 use Rattle.pd_exact.proofs.words.thin_generate_puts_its_text.Goals as goal
+
+thin_generate_asked : (word : List ℕ) (number : ℕ) (file : Option (List ℕ)) → IsName word → generated_number word ≡ Some number → IfSome file IsName
+    → asked (codes "thin_generate" ∷ codes "--number" ∷ word ∷ to_file file) ≡ Some (generate number file)
+unfolding is_flag items_of given version_of tool_in request_of asked
+thin_generate_asked word number None is_word is is_file = rw (is_word, is) refl
+thin_generate_asked word number (Some file) is_word is is_file = rw (is_word, is_file, is) refl
 
 pub returns : goal.returns
 returns c = λ word number file before after is_word is is_file ends.

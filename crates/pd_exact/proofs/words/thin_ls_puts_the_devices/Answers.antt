@@ -1,8 +1,16 @@
-use Rattle.std.proofs.Common.{refl}
+use Rattle.std.proofs.Common.{refl, ◌≡◌, ℕ, List, [], ◌∷◌, ◌++◌, Option, Some, None, IfSome}
 use Rattle.pd_answers.specs.QueryLines.{device_list}
 use Rattle.pd_exact.proofs.Asked.{answered_for, puts}
-use Rattle.pd_exact.proofs.AskedLemmas.{thin_ls_asked}
+use Rattle.std.specs.Prelude.{codes}
+use Rattle.pd_answers.specs.Requests.{query}
+use Rattle.pd_answers.specs.Words.{is_flag, items_of, given, version_of, tool_in, request_of, asked}
+use Rattle.pd_exact.specs.Words.{IsName, to_file}
 use Rattle.pd_exact.proofs.words.thin_ls_puts_the_devices.Goals as goal
+
+thin_ls_asked : (file : Option (List ℕ)) (image : List ℕ) → IfSome file IsName → IsName image → asked (codes "thin_ls" ∷ (to_file file ++ (image ∷ []))) ≡ Some (query device_list file image)
+unfolding is_flag items_of given version_of tool_in request_of asked
+thin_ls_asked None image is_file is_image = rw (is_image) refl
+thin_ls_asked (Some file) image is_file is_image = rw (is_file, is_image) refl
 
 pub returns : goal.returns
 returns c = λ file image before after is_file is_image ends.

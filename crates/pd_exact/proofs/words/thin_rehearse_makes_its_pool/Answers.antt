@@ -1,9 +1,19 @@
 use Rattle.pd_answers.specs.Generated.{generated_text}
 use Rattle.pd_gen.specs.Pool.{generated_pool}
 use Rattle.pd_exact.proofs.Asked.{answered_for, holds_generated}
-use Rattle.pd_exact.proofs.AskedLemmas.{generated_few, thin_rehearse_asked}
+use Rattle.pd_exact.proofs.AskedLemmas.{generated_few}
 use Rattle.pd_exact.proofs.KindLaws.{pool_laws}
+use Rattle.std.proofs.Common.{◌≡◌, ℕ, List, [], ◌∷◌, Some, refl}
+use Rattle.std.specs.Prelude.{codes}
+use Rattle.pd_answers.specs.Requests.{rehearse}
+use Rattle.pd_answers.specs.Words.{is_flag, items_of, given, version_of, generated_number, tool_in, request_of, asked}
+use Rattle.pd_exact.specs.Words.{IsName}
 use Rattle.pd_exact.proofs.words.thin_rehearse_makes_its_pool.Goals as goal
+
+thin_rehearse_asked : (word : List ℕ) (number : ℕ) (path : List ℕ) → IsName word → generated_number word ≡ Some number → IsName path
+    → asked (codes "thin_rehearse" ∷ codes "--number" ∷ word ∷ codes "-o" ∷ path ∷ []) ≡ Some (rehearse number path)
+unfolding is_flag items_of given version_of tool_in request_of asked
+thin_rehearse_asked word number path is_word is is_path = rw (is_word, is_path, is) refl
 
 pub returns : goal.returns
 returns c = λ word number path before after status is_word is is_path ends.

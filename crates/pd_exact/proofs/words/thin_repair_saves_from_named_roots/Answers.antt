@@ -1,6 +1,24 @@
 use Rattle.pd_exact.proofs.Asked.{answered_for}
-use Rattle.pd_exact.proofs.AskedLemmas.{named_repair_asked, said_numbers_fit}
+use Rattle.pd_exact.proofs.AskedLemmas.{said_numbers_fit}
+use Rattle.std.proofs.Common.{◌≡◌, ℕ, Bool, true, false, List, ◌∷◌, ◌++◌, Some, refl}
+use Rattle.std.specs.Prelude.{codes}
+use Rattle.pd_answers.specs.Requests.{repair_named}
+use Rattle.pd_answers.specs.NamedRoots.{NamedRoots}
+use Rattle.pd_answers.specs.Words.{is_flag, items_of, given, given_super, named_roots, version_of, tool_in, request_of, asked}
+use Rattle.pd_exact.specs.NamedRoots.{RootWords, SayRoots, with_roots}
+use Rattle.pd_exact.specs.Search.{NumberWords, SayNumbers, with_numbers}
+use Rattle.pd_exact.specs.Words.{IsName, with_sharing}
 use Rattle.pd_exact.proofs.words.thin_repair_saves_from_named_roots.Goals as goal
+
+named_repair_asked : (shared : Bool) (from to : List ℕ) (roots : RootWords) (words : NumberWords) (named : NamedRoots) (transaction block_size blocks : ℕ) → IsName from → IsName to → SayRoots roots named
+    → SayNumbers words transaction block_size blocks
+    → asked (codes "thin_repair" ∷ (with_sharing shared ++ (codes "-i" ∷ from ∷ codes "-o" ∷ to ∷ with_roots roots (with_numbers words))))
+    ≡ Some (repair_named shared from to (record { transaction = transaction; block_size = block_size; blocks = blocks }) named)
+unfolding is_flag items_of given version_of tool_in request_of asked given_super named_roots
+named_repair_asked false from to roots words named transaction block_size blocks is_from is_to roots_say say =
+    rw (is_from, is_to, roots_say.names.0, roots_say.names.1, say.names.0, say.names.1.0, say.names.1.1, roots_say.top_is, roots_say.details_is, say.transaction_is, say.block_size_is, say.blocks_is) refl
+named_repair_asked true from to roots words named transaction block_size blocks is_from is_to roots_say say =
+    rw (is_from, is_to, roots_say.names.0, roots_say.names.1, say.names.0, say.names.1.0, say.names.1.1, roots_say.top_is, roots_say.details_is, say.transaction_is, say.block_size_is, say.blocks_is) refl
 
 pub returns-clause-made : goal.returns-clause-made
 returns-clause-made c shared from to roots words named transaction block_size blocks before after is_from is_to roots_say say ends =

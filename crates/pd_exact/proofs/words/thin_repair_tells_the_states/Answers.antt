@@ -1,8 +1,33 @@
-use Rattle.std.proofs.Common.{None, Some}
+use Rattle.std.proofs.Common.{None, Some, ◌≡◌, ℕ, Bool, true, false, List, ◌∷◌, ◌++◌, refl}
 use Rattle.pd_exact.proofs.Asked.{answered_for}
-use Rattle.pd_exact.proofs.AskedLemmas.{dry_named_asked, dry_search_asked}
 use Rattle.pd_exact.proofs.NamedTold.{named_put, no_states, states_put}
+use Rattle.std.specs.Prelude.{codes}
+use Rattle.pd_answers.specs.Requests.{dry_search}
+use Rattle.pd_answers.specs.Words.{is_flag, items_of, given, given_super, version_of, tool_in, request_of, asked, named_roots}
+use Rattle.pd_exact.specs.Search.{NumberWords, SayNumbers, with_numbers}
+use Rattle.pd_exact.specs.Words.{IsName, with_sharing}
+use Rattle.pd_answers.specs.NamedRoots.{NamedRoots}
+use Rattle.pd_exact.specs.NamedRoots.{RootWords, SayRoots, with_roots}
 use Rattle.pd_exact.proofs.words.thin_repair_tells_the_states.Goals as goal
+
+dry_search_asked : (shared : Bool) (image : List ℕ) (words : NumberWords) (transaction block_size blocks : ℕ) → IsName image → SayNumbers words transaction block_size blocks
+    → asked (codes "thin_repair" ∷ codes "--dry-run" ∷ (with_sharing shared ++ (codes "-i" ∷ image ∷ with_numbers words)))
+    ≡ Some (dry_search image (record { transaction = transaction; block_size = block_size; blocks = blocks }) None)
+unfolding is_flag items_of given version_of tool_in request_of asked given_super
+dry_search_asked false image words transaction block_size blocks is_image say =
+    rw (is_image, say.names.0, say.names.1.0, say.names.1.1, say.transaction_is, say.block_size_is, say.blocks_is) refl
+dry_search_asked true image words transaction block_size blocks is_image say =
+    rw (is_image, say.names.0, say.names.1.0, say.names.1.1, say.transaction_is, say.block_size_is, say.blocks_is) refl
+
+dry_named_asked : (shared : Bool) (image : List ℕ) (roots : RootWords) (words : NumberWords) (named : NamedRoots) (transaction block_size blocks : ℕ) → IsName image → SayRoots roots named
+    → SayNumbers words transaction block_size blocks
+    → asked (codes "thin_repair" ∷ codes "--dry-run" ∷ (with_sharing shared ++ (codes "-i" ∷ image ∷ with_roots roots (with_numbers words))))
+    ≡ Some (dry_search image (record { transaction = transaction; block_size = block_size; blocks = blocks }) (Some named))
+unfolding is_flag items_of given version_of tool_in request_of asked given_super named_roots
+dry_named_asked false image roots words named transaction block_size blocks is_image roots_say say =
+    rw (is_image, roots_say.names.0, roots_say.names.1, say.names.0, say.names.1.0, say.names.1.1, roots_say.top_is, roots_say.details_is, say.transaction_is, say.block_size_is, say.blocks_is) refl
+dry_named_asked true image roots words named transaction block_size blocks is_image roots_say say =
+    rw (is_image, roots_say.names.0, roots_say.names.1, say.names.0, say.names.1.0, say.names.1.1, roots_say.top_is, roots_say.details_is, say.transaction_is, say.block_size_is, say.blocks_is) refl
 
 pub returns-clause-told : goal.returns-clause-told
 returns-clause-told c shared image words transaction block_size blocks before after is_image say ends =

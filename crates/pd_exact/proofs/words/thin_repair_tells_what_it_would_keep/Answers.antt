@@ -1,9 +1,18 @@
-use Rattle.std.proofs.Common.{None}
+use Rattle.std.proofs.Common.{None, ◌≡◌, ℕ, Bool, true, false, List, [], ◌∷◌, ◌++◌, Some, refl}
 use Rattle.std.proofs.lemmas.Option.{IfSome_then}
 use Rattle.pd_answers.specs.QueryLines.{kept}
 use Rattle.pd_exact.proofs.Asked.{answered_for, answers}
-use Rattle.pd_exact.proofs.AskedLemmas.{dry_repair_asked}
+use Rattle.std.specs.Prelude.{codes}
+use Rattle.pd_answers.specs.Requests.{query}
+use Rattle.pd_answers.specs.Words.{is_flag, items_of, given, version_of, tool_in, request_of, asked}
+use Rattle.pd_exact.specs.Words.{IsName, with_sharing}
 use Rattle.pd_exact.proofs.words.thin_repair_tells_what_it_would_keep.Goals as goal
+
+dry_repair_asked : (shared : Bool) (image : List ℕ) → IsName image
+    → asked (codes "thin_repair" ∷ codes "--dry-run" ∷ (with_sharing shared ++ (codes "-i" ∷ image ∷ []))) ≡ Some (query kept None image)
+unfolding is_flag items_of given version_of tool_in request_of asked
+dry_repair_asked false image is_image = rw is_image refl
+dry_repair_asked true image is_image = rw is_image refl
 
 pub returns : goal.returns
 returns c = λ shared image before after is_image ends.

@@ -1,8 +1,17 @@
-use Rattle.std.proofs.Common.{refl}
+use Rattle.std.proofs.Common.{refl, ◌≡◌, ℕ, List, [], ◌∷◌, ◌++◌, Option, Some, None, IfSome}
 use Rattle.pd_answers.specs.QueryLines.{reverse_map}
 use Rattle.pd_exact.proofs.Asked.{answered_for, puts}
-use Rattle.pd_exact.proofs.AskedLemmas.{thin_rmap_asked}
+use Rattle.std.specs.Prelude.{codes}
+use Rattle.pd_answers.specs.Requests.{query}
+use Rattle.pd_answers.specs.Words.{Region, is_flag, items_of, given, version_of, region_of, tool_in, request_of, asked}
+use Rattle.pd_exact.specs.Words.{IsName, to_file}
 use Rattle.pd_exact.proofs.words.thin_rmap_puts_the_mappings.Goals as goal
+
+thin_rmap_asked : (word : List ℕ) (region : Region) (file : Option (List ℕ)) (image : List ℕ) → IsName word → region_of word ≡ Some region → IfSome file IsName → IsName image
+    → asked (codes "thin_rmap" ∷ codes "--region" ∷ word ∷ (to_file file ++ (image ∷ []))) ≡ Some (query (reverse_map region.first region.end) file image)
+unfolding is_flag items_of given version_of tool_in request_of asked
+thin_rmap_asked word region None image is_word is is_file is_image = rw (is_word, is_image, is) refl
+thin_rmap_asked word region (Some file) image is_word is is_file is_image = rw (is_word, is_file, is_image, is) refl
 
 pub returns : goal.returns
 returns c = λ word region file image before after is_word is is_file is_image ends.

@@ -1,12 +1,21 @@
-use Rattle.std.proofs.Common.{ℕ, List, refl}
+use Rattle.std.proofs.Common.{ℕ, List, refl, ◌≡◌, [], ◌∷◌, ◌++◌, Option, Some, None, IfSome}
 use Rattle.pd_kinds.specs.declared.kind.Kind.TheVariants.{Thin}
 use Rattle.pd_shapes.specs.ImageShape.{image_shape}
 use Rattle.pd_shapes.specs.PoolText.{SpellsPoolShape}
 use Rattle.pd_shapes.specs.SharedText.{text_of_shape}
 use Rattle.pd_answers.specs.QueryLines.{shared_text}
 use Rattle.pd_exact.proofs.Asked.{answered_for, puts, puts_text}
-use Rattle.pd_exact.proofs.AskedLemmas.{thin_shared_dump_asked}
+use Rattle.std.specs.Prelude.{codes}
+use Rattle.pd_answers.specs.Requests.{query}
+use Rattle.pd_answers.specs.Words.{is_flag, items_of, given, version_of, tool_in, request_of, asked}
+use Rattle.pd_exact.specs.Words.{IsName, to_file}
 use Rattle.pd_exact.proofs.words.thin_shared_dump_puts_the_shape.Goals as goal
+
+thin_shared_dump_asked : (file : Option (List ℕ)) (image : List ℕ) → IfSome file IsName → IsName image
+    → asked (codes "thin_dump" ∷ codes "--shared" ∷ (to_file file ++ (image ∷ []))) ≡ Some (query shared_text file image)
+unfolding is_flag items_of given version_of tool_in request_of asked
+thin_shared_dump_asked None image is_file is_image = rw (is_image) refl
+thin_shared_dump_asked (Some file) image is_file is_image = rw (is_file, is_image) refl
 
 pub returns : goal.returns
 returns c = λ file image before after is_file is_image ends.

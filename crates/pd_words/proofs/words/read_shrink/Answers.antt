@@ -5,11 +5,5 @@ use Rattle.pd_words.proofs.words.read_shrink.Goals as goal
 pub returns-clause-asked : goal.returns-clause-asked
 unfolding request_of
 returns-clause-asked c =
-    rw (← c.in_ok-shared.ensures, ← c.in_ok-input.ensures.value, ← c.in_ok-output.ensures.value, ← c.in_ok-pool.ensures.value, ← c.in_ok-required.ensures.value, ← c.in_ok-blocks.ensures)
-    refl
-
-pub returns-in_err-blocks-clause-asked : goal.returns-in_err-blocks-clause-asked
-unfolding request_of
-returns-in_err-blocks-clause-asked c =
-    rw (c.from_residual-in_err-blocks.ensures, ← c.in_ok-shared.ensures, ← c.in_ok-input.ensures.value, ← c.in_ok-output.ensures.value, ← c.in_ok-pool.ensures.value, ← c.in_ok-required.ensures.value, ← c.in_err-blocks.ensures)
+    rw (← c.in_ok-shared.ensures, ← c.in_ok-input.ensures.value, ← c.in_ok-output.ensures.value, ← c.in_ok-pool.ensures.value, ← c.in_ok-blocks.ensures.number)
     refl

@@ -7,5 +7,5 @@ use Rattle.pd_words.proofs.words.read_since.Goals as goal
 pub returns-clause-asked : goal.returns-clause-asked
 unfolding request_of
 returns-clause-asked c =
-    rw (← c.in_ok-required.ensures.value, ← c.in_ok-era.ensures, ← c.in_ok-out.ensures.value, ← c.in_ok-image.ensures.value, file_as_given (words_of (map string_bytes c.args.words.now) c.in_ok-out.out))
+    rw (← c.in_ok-era.ensures.number, ← c.in_ok-out.ensures.value, ← c.in_ok-image.ensures.value, file_as_given (words_of (map string_bytes c.args.words.now) c.in_ok-out.out))
     refl
