@@ -130,10 +130,7 @@ fn push_word(words: &mut Vec<u64>, value: u64) -> Result<(), BuildFault>
     ensures same { OnErr result (vec_len words.new ≡ vec_len words.old) }
     ensures fault { IfErr result (λ fault. fault ≡ BuildFault.Memory) }
 {
-    match words.push(value) {
-        Ok(()) => Ok(()),
-        Err(_) => Err(BuildFault::Memory),
-    }
+    Ok(words.push(value)?)
 }
 
 /// Puts the block of these words at the draft's next place. It stands apart from what takes a word, which then makes no room
@@ -175,10 +172,7 @@ fn write_index<D: Device>(
     ensures faults { CountsBuildFault result (draft_state draft.old).device.faults (draft_state draft.new).device.faults }
 {
     let first = draft.next() - count;
-    let mut builder = match Builder::<Root>::new(alloc, count) {
-        Ok(builder) => builder,
-        Err(_) => return Err(BuildFault::Memory),
-    };
+    let mut builder = Builder::<Root>::new(alloc, count)?;
     for i in 0..count {
         builder.put(draft, i, Root(first + i))?;
     }

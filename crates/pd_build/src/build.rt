@@ -135,9 +135,6 @@ fn add_head(upper: &mut UpperBuilder, head: Option<(u64, u64)>) -> Result<(), Bu
 {
     match head {
         None => Ok(()),
-        Some((key, place)) => match upper.add(key, place) {
-            Ok(()) => Ok(()),
-            Err(_) => Err(BuildFault::Memory),
-        },
+        Some((key, place)) => Ok(upper.add(key, place)?),
     }
 }

@@ -1,5 +1,11 @@
 //! Why a builder stopped.
 
+ghost use Rattle.std.specs.Prelude.{◌≡◌};
+ghost use Rattle.pd_build.specs.declared.fault.BuildFault.TheVariants.{Memory, Device};
+
+use pd_image::Failed;
+use std::alloc::{AllocError, AllocFailed};
+
 /// Why a builder stopped.
 #[derive(Clone, Copy, Debug, PartialEq, Eq)]
 pub enum BuildFault {
@@ -7,4 +13,28 @@ pub enum BuildFault {
     Memory,
     /// The device of the draft failed, and has counted it.
     Device,
+}
+
+impl From<AllocError> for BuildFault {
+    ghost from_gives = { λ _ fault. fault ≡ Memory };
+
+    fn from(_error: AllocError) -> BuildFault {
+        BuildFault::Memory
+    }
+}
+
+impl<T: Drop> From<AllocFailed<T>> for BuildFault {
+    ghost from_gives = { λ _ fault. fault ≡ Memory };
+
+    fn from(_failed: AllocFailed<T>) -> BuildFault {
+        BuildFault::Memory
+    }
+}
+
+impl From<Failed> for BuildFault {
+    ghost from_gives = { λ _ fault. fault ≡ Device };
+
+    fn from(_failed: Failed) -> BuildFault {
+        BuildFault::Device
+    }
 }

@@ -24,10 +24,8 @@ pub fn put_block<D: Device>(draft: &mut Draft<'_, D>, block: &Block) -> Result<(
     ensures faults { CountsBuildFault result (draft_state draft.old).device.faults (draft_state draft.new).device.faults }
     ensures fault { IfErr result (λ fault. fault ≡ BuildFault.Device) }
 {
-    match draft.put(block) {
-        Ok(_) => Ok(()),
-        Err(_) => Err(BuildFault::Device),
-    }
+    draft.put(block)?;
+    Ok(())
 }
 
 /// How many parts of at most so many elements there are.

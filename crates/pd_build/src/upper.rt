@@ -56,10 +56,7 @@ impl UpperBuilder {
         ensures added { OnOk result (self.new ≡ self.old ++ record { key = key; value = place } ∷ []) }
         ensures kept { OnErr result (self.new ≡ self.old) }
     {
-        match self.level.push((key, place)) {
-            Ok(()) => Ok(()),
-            Err(_) => Err(AllocError),
-        }
+        Ok(self.level.push((key, place))?)
     }
 
     /// Writes the levels above, and answers the place of the root: that of the one node, where no other was added.

@@ -36,10 +36,7 @@ pub fn write_tree<V: Value, D: Device>(
     ensures closed { StaysClosed (draft_state draft.old).device (draft_state draft.new).device }
     ensures faults { CountsBuildFault result (draft_state draft.old).device.faults (draft_state draft.new).device.faults }
 {
-    let mut builder = match Builder::<V>::new(alloc, items.len() as u64) {
-        Ok(builder) => builder,
-        Err(_) => return Err(BuildFault::Memory),
-    };
+    let mut builder = Builder::<V>::new(alloc, items.len() as u64)?;
     put_items(&mut builder, draft, items)?;
     builder.finish(draft)
 }

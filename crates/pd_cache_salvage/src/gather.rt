@@ -33,10 +33,7 @@ pub(crate) fn found_rows<D: Device>(
     ensures kept { OnlyReads (D.state dev.old) (D.state dev.new) }
     ensures faults { CountsSalvage result (D.state dev.old).faults (D.state dev.new).faults }
 {
-    let mut arrays = match Arrays::start(alloc, s) {
-        Ok(arrays) => arrays,
-        Err(_) => return Err(SalvageFault::Memory),
-    };
+    let mut arrays = Arrays::start(alloc, s)?;
     let mut rows = Vec::new(alloc);
     for key in 0..keys_of(s.blocks) {
         add_key(&mut arrays, dev, &mut rows, key, s.blocks)?;
@@ -72,12 +69,7 @@ fn add_key<D: Device>(
     ensures kept { OnlyReads (D.state dev.old) (D.state dev.new) }
     ensures faults { CountsSalvage result (D.state dev.old).faults (D.state dev.new).faults }
 {
-    match arrays.hold(dev, key) {
-        Ok(()) => {}
-        Err(_) => return Err(SalvageFault::Device),
-    }
-    match arrays.add_rows(rows, key, end) {
-        Ok(()) => Ok(()),
-        Err(_) => Err(SalvageFault::Memory),
-    }
+    arrays.hold(dev, key)?;
+    arrays.add_rows(rows, key, end)?;
+    Ok(())
 }

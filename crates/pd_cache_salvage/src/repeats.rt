@@ -72,10 +72,8 @@ fn add_new(seen: &mut BTreeSet<u64>, kept: &mut Vec<Row>, row: &Row) -> Result<(
     ensures kept { OnOk result (kept.new.items ≡ kept.old.items ++ (if contains nat_cmp seen.old row.now.origin then [] else row.now ∷ [])) }
     ensures seen { OnOk result ((origin : ℕ) → contains nat_cmp seen.new origin ≡ (contains nat_cmp seen.old origin || row.now.origin == origin)) }
 {
-    match seen.insert(row.origin) {
-        Ok(true) => kept.push(*row)?,
-        Ok(false) => {}
-        Err(_) => return Err(AllocError),
+    if seen.insert(row.origin)? {
+        kept.push(*row)?;
     }
     Ok(())
 }

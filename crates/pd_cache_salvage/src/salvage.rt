@@ -38,11 +38,8 @@ pub fn salvage_cache<D: Device>(
     ensures faults { CountsSalvage result (D.state dev.old).faults (D.state dev.new).faults }
 {
     let rows = found_rows(alloc, dev, s)?;
-    let rows = match first_rows(alloc, rows) {
-        Ok(rows) => rows,
-        Err(_) => return Err(SalvageFault::Memory),
-    };
-    Ok(SavedCache::of_parts(head_of(s), rows))
+    let kept = first_rows(alloc, rows)?;
+    Ok(SavedCache::of_parts(head_of(s), kept))
 }
 
 /// What is said of the whole cache with this superblock.

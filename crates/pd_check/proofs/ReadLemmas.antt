@@ -264,48 +264,35 @@ module _ (tree_once : (graph : Graph) (image : List (List ℕ)) (b role size : �
           (counted_meta Thin (block_at image 0)) in
           omega arith
 
-      -- of a cache
-      few_cache : (image : List (List ℕ)) (audit : Audit) → faults Cache stages.Whole image ≡ [] → IsKnown (cache_graph (block_at image 0)) image audit
-          → count_reads Cache (block_at image 0) image ≤ length (nodes (cache_graph (block_at image 0)) image)
-      unfolding count_reads map_parts
-      few_cache image audit none known =
-          let graph = cache_graph (block_at image 0) in
-          let root = (cache_fields (block_at image 0)).meta_map in
-          let roots = cache_roots stages.Whole image tt none in
-          let tree = (cache_trees (block_at image 0)).meta_overflow in
-          let in_order = ordered Cache stages.Whole image tt none in
-          let bitmaps = cache_bitmaps image none in
+      -- where a map of metadata blocks alone is compared
+      few_map : (graph : Graph) (image : List (List ℕ)) (root : SmRoot) → IsLawful graph → AreInOrder graph image
+          → ((b : ℕ) → b < graph.nr → whole_bad (bitmap_tests graph image is_map_bitmap) b Index ≡ false) → IsIndexRole graph 7 8 → IsTreeRole graph 9 4
+          → IsReached graph image root.bitmap_root 7 → IsReached graph image root.overflow_root 9 → root.blocks ≡ graph.nr → meta_reads root image ≤ length (nodes graph image)
+      unfolding map_parts
+      few_map graph image root lawful in_order bitmaps index tree index_root overflow_root same =
           let most = no_more graph image (map_parts graph image root 7 8 9)
-          (map_once graph image is_map_bitmap root 7 8 9 known.lawful in_order bitmaps refl (cache_index (block_at image 0)) tree roots.meta_index roots.meta_overflow)
+          (map_once graph image is_map_bitmap root 7 8 9 lawful in_order bitmaps refl index tree index_root overflow_root)
           (IsDistinct-from_count nat_eq_equiv (7 ∷ 8 ∷ 9 ∷ []) refl) in
-          let number = map_number graph image is_map_bitmap root 7 8 9 known.lawful in_order bitmaps refl (cache_index (block_at image 0)) tree roots.meta_index roots.meta_overflow
-          (counted_meta Cache (block_at image 0)) in
-          omega arith
-
-      -- of an era target
-      few_era : (image : List (List ℕ)) (audit : Audit) → faults Era stages.Whole image ≡ [] → IsKnown (era_graph (block_at image 0)) image audit
-          → count_reads Era (block_at image 0) image ≤ length (nodes (era_graph (block_at image 0)) image)
-      unfolding count_reads map_parts
-      few_era image audit none known =
-          let graph = era_graph (block_at image 0) in
-          let root = (era_fields (block_at image 0)).meta_map in
-          let roots = era_roots stages.Whole image tt none in
-          let tree = (era_trees (block_at image 0)).meta_overflow in
-          let in_order = ordered Era stages.Whole image tt none in
-          let bitmaps = era_bitmaps image none in
-          let most = no_more graph image (map_parts graph image root 7 8 9)
-          (map_once graph image is_map_bitmap root 7 8 9 known.lawful in_order bitmaps refl (era_index (block_at image 0)) tree roots.meta_index roots.meta_overflow)
-          (IsDistinct-from_count nat_eq_equiv (7 ∷ 8 ∷ 9 ∷ []) refl) in
-          let number = map_number graph image is_map_bitmap root 7 8 9 known.lawful in_order bitmaps refl (era_index (block_at image 0)) tree roots.meta_index roots.meta_overflow
-          (counted_meta Era (block_at image 0)) in
+          let number = map_number graph image is_map_bitmap root 7 8 9 lawful in_order bitmaps refl index tree index_root overflow_root same in
           omega arith
 
       -- of any kind
       few_of : (kind : Kind) (image : List (List ℕ)) (audit : Audit) → faults kind stages.Whole image ≡ [] → IsKnown (graph_of_super kind (block_at image 0)) image audit
           → count_reads kind (block_at image 0) image ≤ length (nodes (graph_of_super kind (block_at image 0)) image)
+      unfolding count_reads
       few_of Thin image audit none known = few_thin image audit none known
-      few_of Cache image audit none known = few_cache image audit none known
-      few_of Era image audit none known = few_era image audit none known
+      few_of Cache image audit none known =
+          let first = block_at image 0 in
+          let roots = cache_roots stages.Whole image tt none in
+          let few = few_map (cache_graph first) image (cache_fields first).meta_map known.lawful (ordered Cache stages.Whole image tt none) (cache_bitmaps image none)
+          (cache_index first) (cache_trees first).meta_overflow roots.meta_index roots.meta_overflow (counted_meta Cache first) in
+          omega arith
+      few_of Era image audit none known =
+          let first = block_at image 0 in
+          let roots = era_roots stages.Whole image tt none in
+          let few = few_map (era_graph first) image (era_fields first).meta_map known.lawful (ordered Era stages.Whole image tt none) (era_bitmaps image none)
+          (era_index first) (era_trees first).meta_overflow roots.meta_index roots.meta_overflow (counted_meta Era first) in
+          omega arith
 
       pub few : (kind : Kind) (first : List ℕ) (image : List (List ℕ)) (audit : Audit) → IsWhole kind first image audit
           → count_reads kind first image ≤ length (nodes (graph_of_super kind first) image)

@@ -49,10 +49,8 @@ pub fn check<M: Metadata, D: Device>(
         return Ok(super_report(&missing_super()));
     }
     let mut first = Block::zeros();
-    match dev.read(0, &mut first) {
-        Ok(()) => check_from::<M, D>(alloc, dev, until, &first, blocks),
-        Err(_) => Err(CheckFault::Device),
-    }
+    dev.read(0, &mut first)?;
+    check_from::<M, D>(alloc, dev, until, &first, blocks)
 }
 
 /// The rest of a check, where block 0 of so many blocks was read.

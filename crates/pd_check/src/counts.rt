@@ -155,14 +155,6 @@ fn add_data_faults<M: Metadata, D: Device>(
     superblocks_lead_to_reached_roots();
     overflow_trees_hold_counts();
     index_trees_name_bitmaps();
-    let counts = match counter.counts() {
-        Ok(counts) => counts,
-        Err(_) => return Err(CheckFault::Memory),
-    };
-    let root = space.root;
-    let inside = (root.bitmap_root < dev.blocks()) & (root.overflow_root < dev.blocks());
-    if inside {
-        return compare_data(alloc, dev, &root, &counts, report);
-    }
-    Ok(())
+    let counts = counter.counts()?;
+    compare_data(alloc, dev, &space.root, &counts, report)
 }

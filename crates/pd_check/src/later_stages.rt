@@ -86,10 +86,8 @@ pub(crate) fn walk_and_settle<F: Format, D: Device, W: Watch>(
     let report = walk_report(&audit);
     let goes_on = is_past_walk(until);
     if goes_on & report.is_empty() {
-        match order_report(dev, format, &mut audit) {
-            Ok(found) => Ok((audit, found)),
-            Err(_) => Err(CheckFault::Device),
-        }
+        let found = order_report(dev, format, &mut audit)?;
+        Ok((audit, found))
     } else {
         Ok((audit, report))
     }

@@ -47,14 +47,9 @@ pub(crate) fn walk_all<F: Format, D: Device, W: Watch>(
     ensures kept { OnlyReads (D.state dev.old) (D.state dev.new) }
     ensures faults { CountsCheckFault result (D.state dev.old).faults (D.state dev.new).faults }
 {
-    let mut audit = match Audit::new(alloc, format.nr()) {
-        Ok(audit) => audit,
-        Err(_) => return Err(CheckFault::Memory),
-    };
-    match walk_watched(&mut audit, format, dev, watch) {
-        Ok(()) => Ok(audit),
-        Err(_) => Err(CheckFault::Device),
-    }
+    let mut audit = Audit::new(alloc, format.nr())?;
+    walk_watched(&mut audit, format, dev, watch)?;
+    Ok(audit)
 }
 
 /// The rules that the audit has of each block, block after block.

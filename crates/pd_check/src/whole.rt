@@ -98,10 +98,7 @@ pub(crate) fn check_whole_watched<M: Metadata, D: Device, W: Watch + Drop>(
     ensures faults { CountsCheckFault result (D.state dev.old).faults (D.state dev.new).faults }
 {
     settled_audits_are_known();
-    let room = match M::room(alloc, first) {
-        Ok(room) => room,
-        Err(_) => return Err(CheckFault::Memory),
-    };
+    let room = M::room(alloc, first)?;
     let mut both = Both {
         first: room,
         second: watch,
@@ -120,10 +117,8 @@ pub(crate) fn check_whole_watched<M: Metadata, D: Device, W: Watch + Drop>(
     if !report.is_empty() {
         return Ok((audit, report, watch));
     }
-    match whole_report::<M, D>(room, first, &mut audit, dev) {
-        Ok(found) => Ok((audit, found, watch)),
-        Err(_) => Err(CheckFault::Device),
-    }
+    let found = whole_report::<M, D>(room, first, &mut audit, dev)?;
+    Ok((audit, found, watch))
 }
 
 /// Looks at all that block 0, which breaks no rule, leads to, and where no block breaks a rule up to those of the
@@ -158,10 +153,7 @@ pub(crate) fn check_counts<M: Metadata, D: Device>(
         )?;
         return Ok(report);
     }
-    let counter = match ref_counter::<M>(alloc, first) {
-        Ok(counter) => counter,
-        Err(_) => return Err(CheckFault::Memory),
-    };
+    let counter = ref_counter::<M>(alloc, first)?;
     let (audit, report, counter) = check_whole_watched::<M, D, RefCounter>(
         alloc, dev, first, blocks, counter,
     )?;

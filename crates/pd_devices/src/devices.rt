@@ -132,10 +132,7 @@ impl Devices {
             → OnOk result (HasGathered (device_line (details_line id details) ∷ before) self.new start now) }
         ensures fault { IfErr result (λ fault. fault ≡ BuildFault.Memory) }
     {
-        let builder = match Builder::new(self.alloc, details.mapped) {
-            Ok(builder) => builder,
-            Err(_) => return Err(BuildFault::Memory),
-        };
+        let builder = Builder::new(self.alloc, details.mapped)?;
         append(&mut self.details, id, details)?;
         self.trees = add_tree(self.trees, details.mapped);
         self.growing = Some(Growing { id, builder });
@@ -184,10 +181,7 @@ fn count_run(counts: &mut BlockCounts, run: Run) -> Result<(), BuildFault>
         → OnOk result (HasCounted counts.new.counts (range_with_len run.data_block run.length ++ before)) }
     ensures fault { IfErr result (λ fault. fault ≡ BuildFault.Memory) }
 {
-    match counts.add_run(run.data_block, run.length) {
-        Ok(()) => Ok(()),
-        Err(_) => Err(BuildFault::Memory),
-    }
+    Ok(counts.add_run(run.data_block, run.length)?)
 }
 
 /// Adds an item at the end.
@@ -195,8 +189,5 @@ fn append<T: Copy>(items: &mut Vec<(u64, T)>, key: u64, value: T) -> Result<(), 
     ensures items { OnOk result (items.new.items ≡ items.old.items ++ (key, value) ∷ []) }
     ensures fault { IfErr result (λ fault. fault ≡ BuildFault.Memory) }
 {
-    match items.push((key, value)) {
-        Ok(()) => Ok(()),
-        Err(_) => Err(BuildFault::Memory),
-    }
+    Ok(items.push((key, value))?)
 }

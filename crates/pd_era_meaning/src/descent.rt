@@ -1,6 +1,6 @@
 //! The way from the root of a writeset to its array blocks, each of which gets a row, and each block is read once.
 
-ghost use Rattle.std.specs.Prelude.{◌≡◌, ℕ, ◌*◌, ◌<◌, ◌≤◌, ◌∷◌, ◌++◌, [], List, false, true, map, IfErr, IfOk, IfSome, OnOk};
+ghost use Rattle.std.specs.Prelude.{◌≡◌, ℕ, ◌*◌, ◌<◌, ◌≤◌, List, false, true, map, IfErr, IfOk, IfSome};
 ghost use Rattle.std.specs.List.{range_with_len};
 ghost use Rattle.pd_kinds.specs.declared.check_fault.CheckFault.TheVariants.{Memory};
 ghost use Rattle.pd_kinds.specs.CheckFault.{CountsCheckFault};
@@ -30,17 +30,6 @@ pub(crate) enum Opened {
     Below(u32, Vec<u64>),
 }
 
-/// One more block. Want of memory is the only error.
-fn add_block(blocks: &mut Vec<u64>, b: u64) -> Result<(), CheckFault>
-    ensures added { OnOk result (blocks.new.items ≡ blocks.old.items ++ b ∷ []) }
-    ensures memory { IfErr result (λ fault. fault ≡ Memory) }
-{
-    match blocks.push(b) {
-        Ok(()) => Ok(()),
-        Err(_) => Err(CheckFault::Memory),
-    }
-}
-
 /// The blocks that an inner node names. Want of memory is the only error.
 #[tactic(auto, unfolding(pd_tree::specs::Below::kids_from))]
 fn children(alloc: Global, block: &Block) -> Result<Vec<u64>, CheckFault>
@@ -50,7 +39,7 @@ fn children(alloc: Global, block: &Block) -> Result<Vec<u64>, CheckFault>
 {
     let mut children = Vec::new(alloc);
     for i in 0..entries::<Root>(block) {
-        add_block(&mut children, child::<Root>(block, i))?;
+        children.push(child::<Root>(block, i))?;
     }
     Ok(children)
 }
@@ -64,7 +53,7 @@ fn arrays(alloc: Global, block: &Block) -> Result<Vec<u64>, CheckFault>
     let mut arrays = Vec::new(alloc);
     for i in 0..entries::<Root>(block) {
         let root = value::<Root>(block, i);
-        add_block(&mut arrays, root.0)?;
+        arrays.push(root.0)?;
     }
     Ok(arrays)
 }
@@ -85,17 +74,6 @@ fn below(alloc: Global, level: u32, block: &Block) -> Result<Opened, CheckFault>
     Ok(Opened::Below(level - 1, children(alloc, block)?))
 }
 
-/// One more row. Want of memory is the only error.
-fn add_row(rows: &mut Vec<Row>, row: Row) -> Result<(), CheckFault>
-    ensures added { OnOk result (rows.new.items ≡ rows.old.items ++ row ∷ []) }
-    ensures memory { IfErr result (λ fault. fault ≡ Memory) }
-{
-    match rows.push(row) {
-        Ok(()) => Ok(()),
-        Err(_) => Err(CheckFault::Memory),
-    }
-}
-
 /// Adds the row of array block b, whose first word has this number, and notes it: the number of the next word. Want of
 /// memory is the only error.
 fn add_array(walk: &mut Walk, b: u64, block: &Block, at: u32, end: u32) -> Result<u32, CheckFault>
@@ -109,7 +87,7 @@ fn add_array(walk: &mut Walk, b: u64, block: &Block, at: u32, end: u32) -> Resul
         end,
         era: walk.era,
     };
-    add_row(&mut walk.rows, row)?;
+    walk.rows.push(row)?;
     let next = at + array_len(block, Word::Eight) as u32;
     walk.note(b, 0, at, next, end);
     Ok(next)
@@ -158,10 +136,8 @@ fn read_block<D: Device>(
         return Ok(Opened::Done(at));
     }
     let mut block = Block::zeros();
-    match dev.read(b, &mut block) {
-        Ok(()) => take_block(alloc, walk, level, b, &block, at, end),
-        Err(_) => Err(CheckFault::Device),
-    }
+    dev.read(b, &mut block)?;
+    take_block(alloc, walk, level, b, &block, at, end)
 }
 
 /// Takes what is known of a block, or reads it. Where no further block of the target counts, it is passed.

@@ -1,7 +1,6 @@
 //! The era of each block, in one list.
 
-ghost use Rattle.std.specs.Prelude.{◌≡◌, ◌++◌, [], length, IfErr, IfOk, IfSome, OnOk};
-ghost use Rattle.pd_kinds.specs.declared.check_fault.CheckFault.TheVariants.{Memory};
+ghost use Rattle.std.specs.Prelude.{◌≡◌, [], length, IfOk, IfSome};
 ghost use Rattle.pd_kinds.specs.declared.kind.Kind.TheVariants.{Era};
 ghost use Rattle.pd_kinds.specs.declared.kind.Stage.TheVariants.{Whole};
 ghost use Rattle.pd_kinds.specs.CheckFault.{CountsCheckFault};
@@ -12,23 +11,11 @@ ghost use Rattle.pd_kinds.specs.Stages.{faults};
 ghost use Rattle.pd_image.specs.Device.{IsAttached, OnlyReads};
 ghost use Rattle.pd_era_meaning.specs.Eras.{eras_below};
 
-use crate::array::room_for;
 use crate::laws::lists_are_the_eras;
 use crate::parts::Eras;
 use pd_image::Device;
 use pd_kinds::{CheckFault, EraSuper};
 use std::alloc::Global;
-
-/// More eras behind those that are there. Want of memory is the only error.
-fn add_part(eras: &mut Vec<u32>, part: &[u32]) -> Result<(), CheckFault>
-    ensures added { OnOk result (eras.new.items ≡ eras.old.items ++ part.now) }
-    ensures memory { IfErr result (λ fault. fault ≡ Memory) }
-{
-    match eras.extend_from_slice(part) {
-        Ok(()) => Ok(()),
-        Err(_) => Err(CheckFault::Memory),
-    }
-}
 
 /// The era of each block of the target with this superblock, by ascending block, from block 0.
 ///
@@ -49,9 +36,9 @@ pub fn era_list<D: Device>(alloc: Global, dev: &mut D, s: &EraSuper) -> Result<V
 {
     lists_are_the_eras();
     let mut left = Eras::start(alloc, dev, s)?;
-    let mut eras = room_for(alloc, s.blocks)?;
+    let mut eras = Vec::with_capacity(alloc, s.blocks as usize)?;
     while left.next(dev)? {
-        add_part(&mut eras, left.part())?;
+        eras.extend_from_slice(left.part())?;
     }
     Ok(eras)
 }

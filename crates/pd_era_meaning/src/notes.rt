@@ -125,26 +125,12 @@ impl Walk {
     }
 }
 
-/// A walk that knows nothing. Want of memory is the only error.
-pub(crate) fn start_walk(alloc: Global, blocks: u64) -> Result<Walk, CheckFault>
-    ensures nothing { IfOk result KnowsNothing }
-    ensures memory { IfErr result (λ fault. fault ≡ Memory) }
-{
-    match Walk::start(alloc, blocks) {
-        Ok(walk) => Ok(walk),
-        Err(_) => Err(CheckFault::Memory),
-    }
-}
-
 /// No notes, with room for so many blocks. Want of memory is the only error.
 fn no_notes(alloc: Global, blocks: u64) -> Result<BlockTable<Note>, CheckFault>
     ensures none { IfOk result (λ notes. (b : ℕ) → slice_index_or (values_of notes) b (record { level = 0; first = 0; next = 0; end = 0 }) ≡ record { level = 0; first = 0; next = 0; end = 0 }) }
     ensures memory { IfErr result (λ fault. fault ≡ Memory) }
 {
-    match BlockTable::new(alloc, blocks as usize, NO_NOTE) {
-        Ok(notes) => Ok(notes),
-        Err(_) => Err(CheckFault::Memory),
-    }
+    Ok(BlockTable::new(alloc, blocks as usize, NO_NOTE)?)
 }
 
 /// Makes the walk ready for an era: what is known is forgotten where that is of an earlier one.

@@ -28,10 +28,7 @@ fn ready(taken: &mut Vec<u64>, blocks: usize) -> Result<(), CheckFault>
     ensures memory { IfErr result (λ fault. fault ≡ Memory) }
 {
     taken.clear();
-    match taken.resize(blocks.div_ceil(64), 0) {
-        Ok(()) => Ok(()),
-        Err(_) => Err(CheckFault::Memory),
-    }
+    Ok(taken.resize(blocks.div_ceil(64), 0)?)
 }
 
 /// No bit is set any more.
@@ -102,13 +99,9 @@ fn raise_row<D: Device>(
         return Ok(());
     }
     let mut block = Block::zeros();
-    match dev.read(row.block, &mut block) {
-        Ok(()) => {
-            raise_by(row, base, &block, part, taken);
-            Ok(())
-        }
-        Err(_) => Err(CheckFault::Device),
-    }
+    dev.read(row.block, &mut block)?;
+    raise_by(row, base, &block, part, taken);
+    Ok(())
 }
 
 /// What is taken is of no earlier era than this one, after one of that era: else it is forgotten.

@@ -3,7 +3,7 @@
 ghost use Rattle.std.specs.Prelude.{◌≡◌};
 ghost use Rattle.pd_array.specs.declared.word.Word.TheVariants.{Four};
 
-use crate::array::{fill_part, room_for, start_array};
+use crate::array::fill_part;
 use crate::notes::Row;
 use crate::part::raise_part;
 use crate::rows::rows_of;
@@ -61,7 +61,7 @@ impl Eras {
         ensures faults { CountsCheckFault result (D.state dev.old).faults (D.state dev.new).faults }
     {
         let rows = rows_of(alloc, dev, s)?;
-        let words = start_array(alloc, s.array_root, Word::Four)?;
+        let words = ArrayCursor::start(alloc, s.array_root, Word::Four)?;
         Ok(Eras {
             blocks: s.blocks,
             next: 0,

@@ -10,8 +10,8 @@ ghost use Rattle.pd_era_meaning.specs.Descent.{AddsSet};
 ghost use Rattle.pd_era_meaning.specs.Rows.{HasRows, HasSets, sets_of};
 
 use crate::descent::add_each;
-use crate::notes::{Row, Walk, make_ready, start_walk};
-use crate::sets::{add_set, all_sets, era_of_key};
+use crate::notes::{Row, Walk, make_ready};
+use crate::sets::{all_sets, era_of_key};
 use pd_image::Device;
 use pd_kinds::{CheckFault, EraSuper};
 use pd_value::Writeset;
@@ -74,7 +74,7 @@ fn add_current(sets: &mut Vec<(u64, Writeset)>, s: &EraSuper) -> Result<(), Chec
         bits: s.current_bits,
         root: s.current_root,
     };
-    add_set(sets, (key, set))
+    Ok(sets.push((key, set))?)
 }
 
 /// The rows of the writesets of the target with this superblock, archived ones and the current one.
@@ -90,7 +90,7 @@ pub(crate) fn rows_of<D: Device>(
 {
     let mut sets = all_sets(alloc, dev, s.writesets_root)?;
     add_current(&mut sets, s)?;
-    let mut walk = start_walk(alloc, dev.blocks())?;
+    let mut walk = Walk::start(alloc, dev.blocks())?;
     add_from_last(alloc, &mut walk, dev, &mut sets, s.blocks)?;
     Ok(walk.rows)
 }

@@ -1,8 +1,7 @@
 //! The numbers of mappings that the details of devices say.
 
-ghost use Rattle.std.specs.Prelude.{◌≡◌, ◌≤◌, map, IfErr, IfOk, IfSome, OnOk};
+ghost use Rattle.std.specs.Prelude.{◌≡◌, ◌≤◌, map, IfOk, IfSome, OnOk};
 ghost use Rattle.pd_image.specs.Device.{IsAttached, OnlyReads};
-ghost use Rattle.pd_salvage.specs.declared.saved.SalvageFault.TheVariants.{Memory};
 ghost use Rattle.pd_salvage.specs.Faults.{CountsSalvage};
 ghost use Rattle.pd_kept.specs.Stored.{AddsStored, AreStored, pair_of, stored_numbers};
 
@@ -10,7 +9,7 @@ use pd_image::Device;
 use pd_kinds::ThinSuper;
 use pd_salvage::{SalvageFault, SavedCursor};
 use pd_value::Details;
-use std::alloc::Global;
+use std::alloc::{AllocError, Global};
 
 /// How many mappings the details of a device say that it has.
 #[derive(Clone, Copy)]
@@ -34,31 +33,19 @@ pub(crate) fn read_stored<D: Device>(
     ensures kept { OnlyReads (D.state dev.old) (D.state dev.new) }
     ensures faults { CountsSalvage result (D.state dev.old).faults (D.state dev.new).faults }
 {
-    let mut entries: SavedCursor<Details> = match SavedCursor::start(
-        alloc,
-        s.meta_map.blocks,
-        s.details_root,
-    ) {
-        Ok(entries) => entries,
-        Err(_) => return Err(SalvageFault::Memory),
-    };
+    let nr = s.meta_map.blocks;
+    let mut entries: SavedCursor<Details> = SavedCursor::start(alloc, nr, s.details_root)?;
     let mut stored = Vec::new(alloc);
-    loop {
-        match entries.next(dev) {
-            Ok(Some((id, details))) => add_stored(&mut stored, id, details.mapped)?,
-            Ok(None) => return Ok(stored),
-            Err(_) => return Err(SalvageFault::Device),
-        }
+    while let Some((id, details)) = entries.next(dev)? {
+        add_stored(&mut stored, id, details.mapped)?;
     }
+    Ok(stored)
 }
 
 /// Adds the number of a device.
-fn add_stored(stored: &mut Vec<StoredNumber>, id: u64, mapped: u64) -> Result<(), SalvageFault>
-    ensures added { OnOk result (AddsStored id mapped stored.old.items stored.new.items) }
-    ensures memory { IfErr result (λ fault. fault ≡ Memory) }
+fn add_stored(stored: &mut Vec<StoredNumber>, id: u64, mapped: u64) -> Result<(), AllocError>
+    ensures { OnOk result (AddsStored id mapped stored.old.items stored.new.items) }
 {
-    match stored.push(StoredNumber { id, mapped }) {
-        Ok(()) => Ok(()),
-        Err(_) => Err(SalvageFault::Memory),
-    }
+    stored.push(StoredNumber { id, mapped })?;
+    Ok(())
 }

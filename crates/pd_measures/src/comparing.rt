@@ -8,7 +8,7 @@ ghost use Rattle.pd_kinds.specs.Whole.{top_entries};
 ghost use Rattle.pd_laid.specs.FoundRoots.{are_fitting, is_sound_tree, lost_graph};
 ghost use Rattle.pd_image.specs.Device.{IsAttached, OnlyReads};
 ghost use Rattle.pd_tree.specs.Below.{nodes_below};
-ghost use Rattle.pd_tree.specs.Cursor.{cursor_items, cursor_number, cursor_room};
+ghost use Rattle.pd_tree.specs.Cursor.{cursor_items, cursor_number};
 ghost use Rattle.pd_tree.specs.Items.{root_of};
 ghost use Rattle.pd_tree.specs.Next.{IsNext};
 ghost use Rattle.pd_measures.specs.Counts.{mappings_below};
@@ -68,8 +68,6 @@ fn take_both<D: Device>(
     dev: &mut D,
 ) -> Result<Option<bool>, Failed>
     requires attached { IsAttached (D.state dev.old) }
-    requires tops { cursor_room cursors.old.tops ≤ (D.state dev.old).blocks }
-    requires details { cursor_room cursors.old.details ≤ (D.state dev.old).blocks }
     ensures decided { IfOk result (λ answer. IfSome (D.state dev.old).held (λ image.
         IsDecided (number_below notes.now) (cursor_items 8 root_of image cursors.old.tops) (cursor_items 24 details_of image cursors.old.details)
         (cursor_items 8 root_of image cursors.new.tops) (cursor_items 24 details_of image cursors.new.details) answer)) }
@@ -77,8 +75,6 @@ fn take_both<D: Device>(
     ensures reads { IfSome (D.state dev.old).held (λ image. OnOk result (
         (D.state dev.new).reads + lists_reads image cursors.new ≤ (D.state dev.old).reads + lists_reads image cursors.old)) }
     ensures reads_failed { IfSome (D.state dev.old).held (λ image. (D.state dev.new).reads ≤ (D.state dev.old).reads + lists_reads image cursors.old) }
-    ensures tops { cursor_room cursors.new.tops ≤ cursor_room cursors.old.tops }
-    ensures details { cursor_room cursors.new.details ≤ cursor_room cursors.old.details }
     ensures kept { OnlyReads (D.state dev.old) (D.state dev.new) }
     ensures faults { CountsFault result (D.state dev.old).faults (D.state dev.new).faults }
 {
@@ -90,8 +86,6 @@ fn take_both<D: Device>(
 /// Whether what is left of both trees is one list of devices.
 fn compare<D: Device>(cursors: &mut ListCursors, notes: &Notes, dev: &mut D) -> Result<bool, Failed>
     requires attached { IsAttached (D.state dev.old) }
-    requires tops { cursor_room cursors.old.tops ≤ (D.state dev.old).blocks }
-    requires details { cursor_room cursors.old.details ≤ (D.state dev.old).blocks }
     ensures one { IfOk result (λ same. IfSome (D.state dev.old).held (λ image.
         same ≡ are_one (number_below notes.now) (cursor_items 8 root_of image cursors.old.tops) (cursor_items 24 details_of image cursors.old.details))) }
     ensures reads { IfSome (D.state dev.old).held (λ image. (D.state dev.new).reads ≤ (D.state dev.old).reads + lists_reads image cursors.old) }
@@ -118,8 +112,6 @@ pub fn do_trees_fit<D: Device>(
     details: u64,
 ) -> Result<bool, Failed>
     requires attached { IsAttached (D.state dev.old) }
-    requires tops { top < (D.state dev.old).blocks }
-    requires details { details < (D.state dev.old).blocks }
     ensures fits { IfOk result (λ fits. IfSome (D.state dev.old).held (λ image. (data_blocks : ℕ) → let graph = lost_graph image data_blocks in
         is_sound_tree graph image 2 top ≡ true → is_sound_tree graph image 4 details ≡ true
         → AllByRecursion (λ (e : Entry). number_below notes.now e.value ≡ mappings_below graph image e.value) (top_entries graph image top)

@@ -1,6 +1,6 @@
 //! The list of devices of a mapping tree, or of a details tree, in memory.
 
-ghost use Rattle.std.specs.Prelude.{◌≡◌, ℕ, ◌<◌, ◌≤◌, true, map, IfOk, IfSome};
+ghost use Rattle.std.specs.Prelude.{◌≡◌, ℕ, true, map, IfOk, IfSome};
 ghost use Rattle.std.specs.List.{AllByRecursion};
 ghost use Rattle.pd_kinds.specs.CheckFault.{CountsCheckFault};
 ghost use Rattle.pd_kinds.specs.Node.{Entry};
@@ -8,7 +8,7 @@ ghost use Rattle.pd_kinds.specs.Whole.{top_entries};
 ghost use Rattle.pd_graph.specs.declared.notes.Notes.{Notes as TheNotes};
 ghost use Rattle.pd_laid.specs.FoundRoots.{is_sound_tree, lost_graph};
 ghost use Rattle.pd_image.specs.Device.{IsAttached, OnlyReads};
-ghost use Rattle.pd_tree.specs.Cursor.{cursor_items, cursor_room};
+ghost use Rattle.pd_tree.specs.Cursor.{cursor_items};
 ghost use Rattle.pd_measures.specs.Counts.{counts_of_details, counts_of_top, mappings_below, pairs_of};
 ghost use Rattle.pd_measures.specs.Gauge.{below_root as number_below};
 ghost use Rattle.pd_measures.specs.Lists.{key_and_told};
@@ -60,7 +60,6 @@ fn gather<V: TellsMappings, D: Device>(
     dev: &mut D,
 ) -> Result<DeviceCounts, CheckFault>
     requires attached { IsAttached (D.state dev.old) }
-    requires within { cursor_room entries.old ≤ (D.state dev.old).blocks }
     ensures list { IfOk result (λ list. IfSome (D.state dev.old).held (λ image.
         list.items ≡ map (key_and_told (V.told notes.now)) (cursor_items V.SIZE V.decoded image entries.old))) }
     ensures kept { OnlyReads (D.state dev.old) (D.state dev.new) }
@@ -68,13 +67,9 @@ fn gather<V: TellsMappings, D: Device>(
 {
     let mut list = Vec::new(alloc);
     'entries: loop {
-        match entries.next(dev) {
-            Ok(Some((id, value))) => match list.push((id, value.mappings(notes))) {
-                Ok(()) => {}
-                Err(_) => return Err(CheckFault::Memory),
-            },
-            Ok(None) => return Ok(list),
-            Err(_) => return Err(CheckFault::Device),
+        match entries.next(dev)? {
+            Some((id, value)) => list.push((id, value.mappings(notes)))?,
+            None => return Ok(list),
         }
     }
 }
@@ -93,7 +88,6 @@ pub fn list_of_top<D: Device>(
     top: u64,
 ) -> Result<DeviceCounts, CheckFault>
     requires attached { IsAttached (D.state dev.old) }
-    requires within { top < (D.state dev.old).blocks }
     ensures list { IfOk result (λ list. IfSome (D.state dev.old).held (λ image. (data_blocks : ℕ) → let graph = lost_graph image data_blocks in
         is_sound_tree graph image 2 top ≡ true
         → AllByRecursion (λ (e : Entry). number_below notes.now e.value ≡ mappings_below graph image e.value) (top_entries graph image top)
@@ -121,7 +115,6 @@ pub fn list_of_details<D: Device>(
     details: u64,
 ) -> Result<DeviceCounts, CheckFault>
     requires attached { IsAttached (D.state dev.old) }
-    requires within { details < (D.state dev.old).blocks }
     ensures list { IfOk result (λ list. IfSome (D.state dev.old).held (λ image. (data_blocks : ℕ) → let graph = lost_graph image data_blocks in
         is_sound_tree graph image 4 details ≡ true → list.items ≡ pairs_of (counts_of_details graph image details))) }
     ensures kept { OnlyReads (D.state dev.old) (D.state dev.new) }

@@ -1,6 +1,6 @@
 //! Trees and arrays of numbers, built from block 1 on, and read back.
 
-ghost use Rattle.std.specs.Prelude.{◌≡◌, ◌+◌, ◌<◌, ◌≤◌, IfOk, OnOk, true};
+ghost use Rattle.std.specs.Prelude.{◌≡◌, ◌+◌, ◌≤◌, IfOk, OnOk, true};
 ghost use Rattle.std.specs.List.{All};
 ghost use Rattle.pd_image.specs.Device.{IsAttached, IsWritable, KeepsPlace};
 ghost use Rattle.pd_kinds.specs.Node.{is_ascending};
@@ -82,7 +82,6 @@ pub(crate) fn has_numbers<D: Device>(
     count: u64,
 ) -> Result<bool, Fail>
     requires attached { IsAttached (D.state dev.old) }
-    requires within { root < (D.state dev.old).blocks }
 {
     let mut cursor = Cursor::<Root>::start(alloc, root)?;
     for i in 0..count {
@@ -155,7 +154,6 @@ pub(crate) fn has_words<D: Device>(
     count: u64,
 ) -> Result<bool, Fail>
     requires attached { IsAttached (D.state dev.old) }
-    requires within { root < (D.state dev.old).blocks }
 {
     let mut cursor = ArrayCursor::start(alloc, root, Word::Eight)?;
     for i in 0..count {

@@ -1,9 +1,8 @@
 //! Lookup in trees, and cursors over their entries and over the words of arrays, on devices in memory.
 
-ghost use Rattle.std.specs.Prelude.{◌≡◌, ◌<◌, ◌≤◌, EachIndex, slice_index};
+ghost use Rattle.std.specs.Prelude.{◌≡◌, ◌<◌, EachIndex, slice_index};
 ghost use Rattle.pd_image.specs.Device.{IsAttached, OnlyReads};
 ghost use Rattle.pd_image.specs.MemDevice.{mem_device_state};
-ghost use Rattle.pd_tree.specs.ArrayCursor.{array_room};
 
 use crate::objects::{NEVER, device_of};
 use pd_array::{Word, write_array};
@@ -54,7 +53,6 @@ fn expect_entries(
     entries: &[(u64, Root)],
 ) -> Result<(), Fail>
     requires attached { IsAttached (mem_device_state device.old) }
-    requires within { root < (mem_device_state device.old).blocks }
     ensures { OnlyReads (mem_device_state device.old) (mem_device_state device.new) }
 {
     let mut cursor = Cursor::<Root>::start(alloc, root)?;
@@ -187,9 +185,7 @@ fn fill_with_sevens(words: &mut [u64])
 /// The next 509 words are 7.
 fn expect_sevens(rt: &impl Abort, cursor: &mut ArrayCursor, device: &mut MemDevice)
     requires attached { IsAttached (mem_device_state device.old) }
-    requires within { array_room cursor.old ≤ (mem_device_state device.old).blocks }
     ensures attached { IsAttached (mem_device_state device.new) }
-    ensures within { array_room cursor.new ≤ (mem_device_state device.new).blocks }
 {
     for _ in 0..509u32 {
         assert!(rt; cursor.next(device) == Ok(Some(7)));

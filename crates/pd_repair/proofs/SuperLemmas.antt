@@ -22,8 +22,8 @@ use Rattle.pd_laws.proofs.SoundLemmas.{tests_after_two}
 use Rattle.pd_laws.proofs.ThinTable.{super_sound}
 use Rattle.pd_repair.specs.declared.fault.RepairFault.{RepairFault}
 use Rattle.pd_repair.specs.declared.fault.RepairFault.TheVariants as f
-use Rattle.pd_salvage.specs.declared.saved.SalvageFault.{SalvageFault}
-use Rattle.pd_salvage.specs.declared.saved.SalvageFault.TheVariants as saving
+use Rattle.pd_salvage.specs.declared.fault.SalvageFault.{SalvageFault}
+use Rattle.pd_salvage.specs.declared.fault.SalvageFault.TheVariants as saving
 use Rattle.pd_restoring.specs.Made.{Content, IsMade, lacking, unbegun}
 use Rattle.pd_restoring.proofs.EndingLemmas.{resting}
 use Rattle.pd_repair.specs.Faults.{output_ending, salvage_fault}

@@ -1,7 +1,7 @@
 -- The faults of what a repair calls, as its own, and how the writing ended.
 use Rattle.std.specs.Prelude.{Result, Ok, Err}
-use Rattle.pd_salvage.specs.declared.saved.SalvageFault.{SalvageFault}
-use Rattle.pd_salvage.specs.declared.saved.SalvageFault.TheVariants as s
+use Rattle.pd_salvage.specs.declared.fault.SalvageFault.{SalvageFault}
+use Rattle.pd_salvage.specs.declared.fault.SalvageFault.TheVariants as s
 use Rattle.pd_restoring.specs.declared.made.MadeFault.{MadeFault}
 use Rattle.pd_restoring.specs.declared.made.MadeFault.TheVariants as m
 use Rattle.pd_restoring.specs.Made.{Ending, done, failed, lacking, short, unbegun}

@@ -29,10 +29,8 @@ pub fn repair_shared<A: Device, B: Device>(
     ensures place { KeepsPlace (B.state output.old) (B.state output.new) }
     ensures causes { CountsRepair result (A.state input.old).faults (A.state input.new).faults (B.state output.old).faults (B.state output.new).faults }
 {
-    match sound_super(input) {
-        Ok(s) => repair_shared_from(alloc, input, output, &s),
-        Err(fault) => Err(fault),
-    }
+    let s = sound_super(input)?;
+    repair_shared_from(alloc, input, output, &s)
 }
 
 /// Writes what can be saved of the pool with this superblock to another device. A leaf that devices share, or that one uses

@@ -16,8 +16,8 @@ use Rattle.pd_laws.proofs.SoundLemmas.{IsSound, tests_after_two}
 use Rattle.pd_spells.specs.CacheNeed.{cache_need, need_of_cache}
 use Rattle.pd_cache_salvage.specs.Head.{head_of}
 use Rattle.pd_cache_salvage.specs.SavedCache.{HeldCache, held_cache}
-use Rattle.pd_salvage.specs.declared.saved.SalvageFault.{SalvageFault}
-use Rattle.pd_salvage.specs.declared.saved.SalvageFault.TheVariants as s
+use Rattle.pd_salvage.specs.declared.fault.SalvageFault.{SalvageFault}
+use Rattle.pd_salvage.specs.declared.fault.SalvageFault.TheVariants as s
 use Rattle.pd_restoring.specs.declared.made.MadeFault.{MadeFault}
 use Rattle.pd_restoring.specs.declared.made.MadeFault.TheVariants as m
 use Rattle.pd_restoring.specs.Made.{ending_of, lacking, unbegun}

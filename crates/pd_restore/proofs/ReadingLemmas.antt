@@ -1,6 +1,6 @@
 -- A text that is read and restored, line by line.
 use Rattle.std.proofs.Common.{◌≡◌, ℕ, ◌-◌, ◌<◌, ◌≤◌, ◌^◌, Bool, true, false, List, [], ◌∷◌, length, refl, sym, ◌∙◌, ap, arith, Option, Some, Result, Ok, Err, subst, if◌then◌else◌}
-use Rattle.std.specs.Prelude.{MatchResult, IfOk, IfErr, OnOk}
+use Rattle.std.specs.Prelude.{IsErrAnd, MatchResult, IfOk, IfErr, OnOk}
 use Rattle.pd_draft.specs.Placed.{DraftState}
 use Rattle.pd_grammar.specs.Spelling.{need_above_room}
 use Rattle.pd_grammar.specs.Texts.{reading}
@@ -42,13 +42,16 @@ grows_where (Err fault) before line old new was is few = tt
 grows_where (Ok more) before line old new was is few = λ e. omega (arith, was.so_far.count, is.so_far.count, few)
 
 -- a fault of what builds is no other, and asks for no room
-pub build_is : (fault : BuildFault) → IsOfBuild (build_fault fault)
-build_is b.Memory = tt
-build_is b.Device = tt
+pub build_is : {T : Type 0} (result : Result T RestoreFault) (fault : BuildFault) → IsErrAnd result (λ given. given ≡ build_fault fault) → IfErr result IsOfBuild
+build_is (Ok made) fault p = absurd p
+build_is (Err given) b.Memory p = rw p tt
+build_is (Err given) b.Device p = rw p tt
 
-pub no_room_asked : (fault : BuildFault) (room need : ℕ) → IsOver room need (build_fault fault)
-no_room_asked b.Memory room need = tt
-no_room_asked b.Device room need = tt
+pub no_room_asked : {T : Type 0} (P : T → Type 0) (result : Result T RestoreFault) (fault : BuildFault) (room need : ℕ) → IsErrAnd result (λ given. given ≡ build_fault fault)
+    → MatchResult result P (IsOver room need)
+no_room_asked P (Ok made) fault room need p = absurd p
+no_room_asked P (Err given) b.Memory room need p = rw p tt
+no_room_asked P (Err given) b.Device room need p = rw p tt
 
 -- where there is no room for a line, so much is needed of a text with it
 pub lacking : {T : Type 0} (result : Result T RestoreFault) (before more : List Line) (line : Line) (room : ℕ) (t : List ℕ) → NoneAbove pool_need_so_far room before → 1 ≤ length before

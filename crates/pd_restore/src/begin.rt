@@ -14,7 +14,7 @@ ghost use Rattle.pd_restore.specs.Whole.{begun_lines, head_of_pool};
 use crate::saved_lines::SavedLines;
 use crate::shape_lines::ShapeLines;
 use pd_image::Source;
-use pd_restoring::{RestoreFault, of_read};
+use pd_restoring::RestoreFault;
 use pd_salvage::SavedHead;
 use pd_texts::{ThinLine, ThinText};
 
@@ -50,10 +50,8 @@ pub(crate) fn read_pool<S: Source>(
     ensures source { KeepsSource (S.state source.old) (S.state source.new) }
     ensures faults { CountsBegin result (S.state source.old).faults (S.state source.new).faults }
 {
-    match text.next(source) {
-        Ok(line) => Ok(pool_of(line)),
-        Err(fault) => Err(of_read(fault)),
-    }
+    let line = text.next(source)?;
+    Ok(pool_of(line))
 }
 
 /// The pool of the second line.

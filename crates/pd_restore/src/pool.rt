@@ -22,7 +22,7 @@ use crate::parts::PoolRoots;
 use pd_draft::Draft;
 use pd_image::{Device, Source};
 use pd_kinds::{Block, ThinSuper};
-use pd_restoring::{RestoreFault, of_build};
+use pd_restoring::RestoreFault;
 use pd_salvage::SavedHead;
 use pd_supers::write_thin_super;
 use pd_texts::ThinText;
@@ -75,10 +75,8 @@ pub(crate) fn write_rest<D: Device, G: Gathering>(
     ensures closed { StaysClosed (draft_state draft.old).device (draft_state draft.new).device }
     ensures faults { CountsTake result (draft_state draft.old).device.faults (draft_state draft.new).device.faults }
 {
-    match gathered.write_parts(alloc, draft, room) {
-        Ok(parts) => Ok(write_thin_super(&super_of(pool, parts, room))),
-        Err(fault) => Err(of_build(fault)),
-    }
+    let parts = gathered.write_parts(alloc, draft, room)?;
+    Ok(write_thin_super(&super_of(pool, parts, room)))
 }
 
 /// The superblock's fields.

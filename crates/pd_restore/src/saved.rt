@@ -41,10 +41,7 @@ pub(crate) fn write_saved<D: Device, L: Giving, G: Gathering>(
     ensures closed { StaysClosed (draft_state draft.old).device (draft_state draft.new).device }
     ensures faults { CountsTake result (draft_state draft.old).device.faults (draft_state draft.new).device.faults }
 {
-    let mut gathered = match G::start(alloc, pool.blocks, room) {
-        Ok(gathered) => gathered,
-        Err(_) => return Err(RestoreFault::Memory),
-    };
+    let mut gathered = G::start(alloc, pool.blocks, room)?;
     take_all(lines, draft, &mut gathered, room)?;
     write_rest(alloc, draft, &gathered, pool, room)
 }

@@ -15,7 +15,7 @@ use crate::shared_lines::put_shared;
 use pd_build::BuildFault;
 use pd_draft::Draft;
 use pd_image::Device;
-use pd_restoring::{RestoreFault, of_build};
+use pd_restoring::RestoreFault;
 use pd_shared_devices::{SharedDevices, gathered_lines_are_a_shape};
 use pd_texts::{TextFault, ThinLine};
 use std::alloc::{AllocError, Global};
@@ -81,13 +81,9 @@ impl Gathering for SharedLines {
     ) -> Result<(), RestoreFault> {
         let needed = self.need_at_end(room);
         within(needed, room)?;
-        match self.devices.end(draft) {
-            Ok(()) => {
-                self.lines = self.lines.saturating_add(1);
-                Ok(())
-            }
-            Err(fault) => Err(of_build(fault)),
-        }
+        self.devices.end(draft)?;
+        self.lines = self.lines.saturating_add(1);
+        Ok(())
     }
 
     fn refused(&self, fault: TextFault, room: u64) -> RestoreFault {

@@ -18,7 +18,7 @@ use crate::gathering::within;
 use pd_devices::Run;
 use pd_draft::Draft;
 use pd_image::Device;
-use pd_restoring::{RestoreFault, of_build};
+use pd_restoring::RestoreFault;
 use pd_shared_devices::SharedDevices;
 use pd_texts::{Run2, ThinLine};
 use pd_value::Details;
@@ -67,10 +67,8 @@ fn put_leaf<D: Device>(
     ensures closed { StaysClosed (draft_state draft.old).device (draft_state draft.new).device }
     ensures faults { CountsTake result (draft_state draft.old).device.faults (draft_state draft.new).device.faults }
 {
-    match devices.add_leaf(draft) {
-        Ok(()) => look(devices, room),
-        Err(fault) => Err(of_build(fault)),
-    }
+    devices.add_leaf(draft)?;
+    look(devices, room)
 }
 
 /// Begins a device, and looks at the room then.
@@ -92,10 +90,8 @@ fn put_device<D: Device>(
     ensures closed { StaysClosed (draft_state draft.old).device (draft_state draft.new).device }
     ensures faults { CountsTake result (draft_state draft.old).device.faults (draft_state draft.new).device.faults }
 {
-    match devices.add_device(draft, id, details) {
-        Ok(()) => look(devices, room),
-        Err(fault) => Err(of_build(fault)),
-    }
+    devices.add_device(draft, id, details)?;
+    look(devices, room)
 }
 
 /// Takes the use of a leaf, and looks at the room then.
@@ -116,10 +112,8 @@ fn put_use<D: Device>(
     ensures closed { StaysClosed (draft_state draft.old).device (draft_state draft.new).device }
     ensures faults { CountsTake result (draft_state draft.old).device.faults (draft_state draft.new).device.faults }
 {
-    match devices.add_use(draft, number) {
-        Ok(()) => look(devices, room),
-        Err(fault) => Err(of_build(fault)),
-    }
+    devices.add_use(draft, number)?;
+    look(devices, room)
 }
 
 /// Takes a run, where there is room for it: its length is what the line says, so the room is looked at first.
@@ -139,10 +133,8 @@ fn put_run(devices: &mut SharedDevices, run: Run2, room: u64) -> Result<(), Rest
     };
     let needed = devices.need_with(&run, room);
     within(needed, room)?;
-    match devices.add_run(run) {
-        Ok(()) => Ok(()),
-        Err(_) => Err(RestoreFault::Memory),
-    }
+    devices.add_run(run)?;
+    Ok(())
 }
 
 /// Whether there is room for what was restored so far.

@@ -79,10 +79,7 @@ impl Restoring for Pools {
     ghost goes_on = { λ kind. pool_goes_on };
 
     fn begin<S: Source>(&self, alloc: Global, source: &mut S) -> Result<Begun, RestoreFault> {
-        let mut text = match ThinText::new(alloc) {
-            Ok(text) => text,
-            Err(_) => return Err(RestoreFault::Memory),
-        };
+        let mut text = ThinText::new(alloc)?;
         let pool = read_pool(&mut text, source)?;
         Ok(Begun {
             pool,
@@ -142,9 +139,6 @@ fn write_text<S: Source, D: Device, G: Gathering>(
     ensures closed { StaysClosed (draft_state draft.old).device (draft_state draft.new).device }
     ensures faults { CountsRestore result (S.state source.old).faults (S.state source.new).faults (draft_state draft.old).device.faults (draft_state draft.new).device.faults }
 {
-    let mut gathered = match G::start(alloc, pool.blocks, room) {
-        Ok(gathered) => gathered,
-        Err(_) => return Err(RestoreFault::Memory),
-    };
+    let mut gathered = G::start(alloc, pool.blocks, room)?;
     write_pool(alloc, text, source, draft, &mut gathered, pool, room)
 }

@@ -20,7 +20,7 @@ use pd_count::Counts;
 use pd_devices::{Devices, Run};
 use pd_draft::Draft;
 use pd_image::Device;
-use pd_restoring::{RestoreFault, of_build};
+use pd_restoring::RestoreFault;
 use pd_shapes::pool_text_is_accepted_where_there_is_room;
 use pd_texts::{TextFault, ThinLine};
 use std::alloc::{AllocError, Global};
@@ -44,10 +44,8 @@ impl Gathering for Devices {
         line: ThinLine,
         room: u64,
     ) -> Result<(), RestoreFault> {
-        match put_line(draft, self, line, room) {
-            Ok(()) => look(self, room),
-            Err(fault) => Err(of_build(fault)),
-        }
+        put_line(draft, self, line, room)?;
+        look(self, room)
     }
 
     fn take_end<D: Device>(
@@ -56,10 +54,7 @@ impl Gathering for Devices {
         room: u64,
     ) -> Result<(), RestoreFault> {
         let _room = room;
-        match self.end(draft) {
-            Ok(()) => Ok(()),
-            Err(fault) => Err(of_build(fault)),
-        }
+        Ok(self.end(draft)?)
     }
 
     fn refused(&self, fault: TextFault, room: u64) -> RestoreFault {
@@ -74,10 +69,7 @@ impl Gathering for Devices {
         room: u64,
     ) -> Result<PoolRoots, BuildFault> {
         pool_text_is_accepted_where_there_is_room();
-        let uses = match Counts::new(alloc, 0) {
-            Ok(uses) => uses,
-            Err(_) => return Err(BuildFault::Memory),
-        };
+        let uses = Counts::new(alloc, 0)?;
         write_behind(
             alloc,
             draft,

@@ -38,10 +38,7 @@ pub(crate) fn write_words<D: Device>(
     ensures closed { StaysClosed (draft_state draft.old).device (draft_state draft.new).device }
     ensures faults { CountsBuildFault result (draft_state draft.old).device.faults (draft_state draft.new).device.faults }
 {
-    let mut builder = match ArrayBuilder::new(alloc, count, words.size()) {
-        Ok(builder) => builder,
-        Err(_) => return Err(BuildFault::Memory),
-    };
+    let mut builder = ArrayBuilder::new(alloc, count, words.size())?;
     let mut at = 0;
     for i in 0..count {
         let (word, next) = words.word(rows, at, i);

@@ -13,7 +13,7 @@ ghost use Rattle.pd_restore_cache.specs.Gathered.{begun_lines, head_of_cache};
 use pd_cache_salvage::CacheHead;
 use pd_cache_texts::{CacheLine, CacheText};
 use pd_image::Source;
-use pd_restoring::{RestoreFault, of_read};
+use pd_restoring::RestoreFault;
 use std::alloc::Global;
 
 /// A reader of a cache's text, with what the cache line says.
@@ -33,10 +33,7 @@ pub(crate) fn begin<S: Source>(alloc: Global, source: &mut S) -> Result<Begun, R
     ensures source { KeepsSource (S.state source.old) (S.state source.new) }
     ensures faults { CountsBegin result (S.state source.old).faults (S.state source.new).faults }
 {
-    let mut text = match CacheText::new(alloc) {
-        Ok(text) => text,
-        Err(_) => return Err(RestoreFault::Memory),
-    };
+    let mut text = CacheText::new(alloc)?;
     let cache = read_cache(&mut text, source)?;
     Ok(Begun { text, cache })
 }
@@ -53,10 +50,8 @@ fn read_cache<S: Source>(text: &mut CacheText, source: &mut S) -> Result<CacheHe
     ensures source { KeepsSource (S.state source.old) (S.state source.new) }
     ensures faults { CountsBegin result (S.state source.old).faults (S.state source.new).faults }
 {
-    match text.next(source) {
-        Ok(line) => Ok(cache_of(line)),
-        Err(fault) => Err(of_read(fault)),
-    }
+    let line = text.next(source)?;
+    Ok(cache_of(line))
 }
 
 /// The cache of the second line.

@@ -38,10 +38,8 @@ impl Gathered {
         ensures rows { IfOk result (λ more. self.new.rows.items ≡ self.old.rows.items ++ row ∷ []) }
         ensures fault { IfErr result (λ fault. fault ≡ RestoreFault.Memory) }
     {
-        match self.rows.push(row) {
-            Ok(()) => Ok(true),
-            Err(_) => Err(RestoreFault::Memory),
-        }
+        self.rows.push(row)?;
+        Ok(true)
     }
 
     /// Refuses the first line that has the origin of an earlier one.
@@ -50,11 +48,11 @@ impl Gathered {
         ensures repeated { IfErr result (IsRepeatIn self.now) }
     {
         let rows = &self.rows;
-        match rows_before_repeat(alloc, rows) {
-            Ok(before) if before < rows.len() => Err(repeated_after(before)),
-            Ok(_) => Ok(()),
-            Err(_) => Err(RestoreFault::Memory),
+        let before = rows_before_repeat(alloc, rows)?;
+        if before < rows.len() {
+            return Err(repeated_after(before));
         }
+        Ok(())
     }
 }
 

@@ -14,7 +14,7 @@ use crate::gather::Gathered;
 use pd_cache_salvage::Row;
 use pd_cache_texts::{CacheLine, CacheText};
 use pd_image::Source;
-use pd_restoring::{RestoreFault, of_read};
+use pd_restoring::RestoreFault;
 use std::alloc::Global;
 
 /// Gathers the lines of a text after the cache line, up to its end. Their origins are looked at once behind them, also
@@ -77,10 +77,9 @@ fn step<S: Source>(
     ensures source { KeepsSource (S.state source.old) (S.state source.new) }
     ensures faults { CountsBegin result (S.state source.old).faults (S.state source.new).faults }
 {
-    match text.next(source) {
-        Ok(Some(line)) => take(gathered, line),
-        Ok(None) => Ok(false),
-        Err(fault) => Err(of_read(fault)),
+    match text.next(source)? {
+        Some(line) => take(gathered, line),
+        None => Ok(false),
     }
 }
 

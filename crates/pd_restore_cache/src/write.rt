@@ -31,7 +31,7 @@ use pd_cache_salvage::{CacheHead, Row};
 use pd_draft::Draft;
 use pd_image::{Device, Source};
 use pd_kinds::{Block, CacheSuper};
-use pd_restoring::{RestoreFault, of_build};
+use pd_restoring::RestoreFault;
 use pd_supers::write_cache_super;
 use std::alloc::Global;
 
@@ -88,10 +88,7 @@ fn write_gathered<D: Device>(
     ensures closed { StaysClosed (draft_state draft.old).device (draft_state draft.new).device }
     ensures faults { CountsTake result (draft_state draft.old).device.faults (draft_state draft.new).device.faults }
 {
-    match write_rows(alloc, draft, &gathered.cache, &gathered.rows, version, room) {
-        Ok(block) => Ok(block),
-        Err(fault) => Err(of_build(fault)),
-    }
+    Ok(write_rows(alloc, draft, &gathered.cache, &gathered.rows, version, room)?)
 }
 
 /// Writes a cache of these entries, but for its superblock, which it answers.

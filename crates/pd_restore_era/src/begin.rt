@@ -12,7 +12,7 @@ ghost use Rattle.pd_restore_era.specs.Begin.{IsOfTarget, begun_lines, head_of_ta
 
 use pd_era_texts::{EraLine, EraText};
 use pd_image::Source;
-use pd_restoring::{RestoreFault, of_read};
+use pd_restoring::RestoreFault;
 
 /// The era line of a text.
 #[derive(Clone, Copy, Debug, PartialEq, Eq)]
@@ -36,10 +36,8 @@ pub(crate) fn read_target<S: Source>(
     ensures source { KeepsSource (S.state source.old) (S.state source.new) }
     ensures faults { CountsBegin result (S.state source.old).faults (S.state source.new).faults }
 {
-    match text.next(source) {
-        Ok(line) => Ok(target_of(line)),
-        Err(fault) => Err(of_read(fault)),
-    }
+    let line = text.next(source)?;
+    Ok(target_of(line))
 }
 
 /// The target of the second line.

@@ -53,10 +53,7 @@ impl Restoring for EraTarget {
     ghost goes_on = { λ kind text begun left leaves. begins_with era first_line (era_line (head_of_target begun.target)) text begun.text left leaves };
 
     fn begin<S: Source>(&self, alloc: Global, source: &mut S) -> Result<EraBegun, RestoreFault> {
-        let mut text = match EraText::new(alloc) {
-            Ok(text) => text,
-            Err(_) => return Err(RestoreFault::Memory),
-        };
+        let mut text = EraText::new(alloc)?;
         let target = read_target(&mut text, source)?;
         Ok(EraBegun { text, target })
     }

@@ -19,7 +19,7 @@ use pd_build::ArrayBuilder;
 use pd_draft::Draft;
 use pd_era_texts::{EraLine, EraText};
 use pd_image::{Device, Source};
-use pd_restoring::{RestoreFault, of_build, of_read};
+use pd_restoring::RestoreFault;
 
 /// Reads the lines of a text after these ones up to its end, and restores them.
 pub(crate) fn restore_lines<S: Source, D: Device>(
@@ -68,10 +68,9 @@ pub(crate) fn step<S: Source, D: Device>(
     ensures closed { StaysClosed (draft_state draft.old).device (draft_state draft.new).device }
     ensures faults { CountsRestore result (S.state source.old).faults (S.state source.new).faults (draft_state draft.old).device.faults (draft_state draft.new).device.faults }
 {
-    match text.next(source) {
-        Ok(Some(line)) => take(draft, array, line),
-        Ok(None) => Ok(false),
-        Err(fault) => Err(of_read(fault)),
+    match text.next(source)? {
+        Some(line) => take(draft, array, line),
+        None => Ok(false),
     }
 }
 
@@ -98,9 +97,9 @@ fn take<D: Device>(
             first: _,
             length,
             era,
-        } => match put_run(draft, array, length, era) {
-            Ok(()) => Ok(true),
-            Err(fault) => Err(of_build(fault)),
-        },
+        } => {
+            put_run(draft, array, length, era)?;
+            Ok(true)
+        }
     }
 }

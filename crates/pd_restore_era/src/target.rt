@@ -25,7 +25,7 @@ use pd_draft::Draft;
 use pd_era_texts::EraText;
 use pd_image::{Device, Source};
 use pd_kinds::{Block, EraSuper};
-use pd_restoring::{RestoreFault, of_build};
+use pd_restoring::RestoreFault;
 use pd_supers::write_era_super;
 use std::alloc::Global;
 
@@ -54,15 +54,10 @@ pub(crate) fn write_target<S: Source, D: Device>(
     ensures closed { StaysClosed (draft_state draft.old).device (draft_state draft.new).device }
     ensures faults { CountsRestore result (S.state source.old).faults (S.state source.new).faults (draft_state draft.old).device.faults (draft_state draft.new).device.faults }
 {
-    let mut array = match ArrayBuilder::new(alloc, target.blocks as u64, Word::Four) {
-        Ok(array) => array,
-        Err(_) => return Err(RestoreFault::Memory),
-    };
+    let mut array = ArrayBuilder::new(alloc, target.blocks as u64, Word::Four)?;
     restore_lines(text, source, draft, &mut array)?;
-    match write_parts(alloc, draft, array, room) {
-        Ok(parts) => Ok(write_era_super(&super_of(target, parts))),
-        Err(fault) => Err(of_build(fault)),
-    }
+    let parts = write_parts(alloc, draft, array, room)?;
+    Ok(write_era_super(&super_of(target, parts)))
 }
 
 /// The superblock's fields.

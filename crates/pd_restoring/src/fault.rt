@@ -1,10 +1,12 @@
 //! Why a restore failed.
 
 ghost use Rattle.std.specs.Prelude.{◌≡◌};
+ghost use Rattle.pd_restoring.specs.declared.fault.RestoreFault.TheVariants.{Memory};
 ghost use Rattle.pd_restoring.specs.Faults.{read_fault, build_fault};
 
 use pd_build::BuildFault;
 use pd_texts::{ReadFault, TextFault};
+use std::alloc::{AllocError, AllocFailed};
 
 /// Why a restore failed.
 #[derive(Clone, Copy, Debug, PartialEq, Eq)]
@@ -21,23 +23,43 @@ pub enum RestoreFault {
     NoRoom { need: u64, blocks: u64 },
 }
 
-/// A text that can't be read isn't restored.
-pub fn of_read(fault: ReadFault) -> RestoreFault
-    ensures { result ≡ read_fault fault }
-{
-    match fault {
-        ReadFault::Memory => RestoreFault::Memory,
-        ReadFault::Source => RestoreFault::Source,
-        ReadFault::Text(fault) => RestoreFault::Text(fault),
+impl From<AllocError> for RestoreFault {
+    ghost from_gives = { λ _ given. given ≡ Memory };
+
+    fn from(_error: AllocError) -> RestoreFault {
+        RestoreFault::Memory
     }
 }
 
-/// Nor is one whose pool can't be written.
-pub fn of_build(fault: BuildFault) -> RestoreFault
-    ensures { result ≡ build_fault fault }
-{
-    match fault {
-        BuildFault::Memory => RestoreFault::Memory,
-        BuildFault::Device => RestoreFault::Device,
+impl<T: Drop> From<AllocFailed<T>> for RestoreFault {
+    ghost from_gives = { λ _ given. given ≡ Memory };
+
+    fn from(_failed: AllocFailed<T>) -> RestoreFault {
+        RestoreFault::Memory
+    }
+}
+
+/// A text that can't be read isn't restored.
+impl From<ReadFault> for RestoreFault {
+    ghost from_gives = { λ fault given. given ≡ read_fault fault };
+
+    fn from(fault: ReadFault) -> RestoreFault {
+        match fault {
+            ReadFault::Memory => RestoreFault::Memory,
+            ReadFault::Source => RestoreFault::Source,
+            ReadFault::Text(fault) => RestoreFault::Text(fault),
+        }
+    }
+}
+
+/// Nor is one that can't be written.
+impl From<BuildFault> for RestoreFault {
+    ghost from_gives = { λ fault given. given ≡ build_fault fault };
+
+    fn from(fault: BuildFault) -> RestoreFault {
+        match fault {
+            BuildFault::Memory => RestoreFault::Memory,
+            BuildFault::Device => RestoreFault::Device,
+        }
     }
 }

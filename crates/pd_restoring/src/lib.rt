@@ -7,7 +7,7 @@ mod own_map;
 mod restoring;
 mod whole;
 
-pub use fault::{RestoreFault, of_build, of_read};
+pub use fault::RestoreFault;
 pub use made::MadeFault;
 pub use own_map::write_own_map;
 pub use restoring::Restoring;

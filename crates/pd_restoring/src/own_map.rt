@@ -36,10 +36,7 @@ pub fn write_own_map<D: Device>(
     ensures closed { StaysClosed (draft_state draft.old).device (draft_state draft.new).device }
     ensures faults { CountsBuildFault result (draft_state draft.old).device.faults (draft_state draft.new).device.faults }
 {
-    let mut counts = match counts_of_ones(alloc, room, draft.next()) {
-        Ok(counts) => counts,
-        Err(_) => return Err(BuildFault::Memory),
-    };
+    let mut counts = counts_of_ones(alloc, room, draft.next())?;
     write_meta_map(alloc, draft, &mut counts)
 }
 

@@ -7,8 +7,8 @@ ghost use Rattle.pd_salvage.specs.Faults.{CountsSalvage};
 ghost use Rattle.pd_salvage.specs.Gather.{IsGathered, run_of_mapping, to_come};
 
 use crate::cursor::SavedCursor;
+use crate::fault::SalvageFault;
 use crate::joined::Joining;
-use crate::saved::SalvageFault;
 use pd_image::Device;
 use pd_runs::PackedRuns;
 use pd_thin_meaning::Run;
@@ -81,23 +81,11 @@ pub(crate) fn gather<D: Device>(
         joining: Joining { begun: None },
         mapped: 0,
     };
-    loop {
-        match mappings.next_known(dev) {
-            Ok(Some((virt, mapping))) => {
-                if mapping.block < blocks {
-                    match gathering.take(runs, virt, mapping) {
-                        Ok(()) => {}
-                        Err(_) => return Err(SalvageFault::Memory),
-                    }
-                }
-            }
-            Ok(None) => {
-                return match gathering.joining.end(runs) {
-                    Ok(()) => Ok(gathering.mapped),
-                    Err(_) => Err(SalvageFault::Memory),
-                };
-            }
-            Err(_) => return Err(SalvageFault::Device),
+    while let Some((virt, mapping)) = mappings.next_known(dev)? {
+        if mapping.block < blocks {
+            gathering.take(runs, virt, mapping)?;
         }
     }
+    gathering.joining.end(runs)?;
+    Ok(gathering.mapped)
 }

@@ -6,6 +6,7 @@
 
 mod cursor;
 mod details;
+mod fault;
 mod gather;
 mod joined;
 mod packed_piece;
@@ -20,11 +21,12 @@ mod way;
 
 pub use cursor::SavedCursor;
 pub use details::SavedDetails;
+pub use fault::SalvageFault;
 pub use joined::Joining;
 pub use packed_piece::{PackedPiece, add_piece};
 pub use pool::salvage;
 pub use range::Range;
-pub use saved::{Salvage, SalvageFault, SavedDevice, SavedHead};
+pub use saved::{Salvage, SavedDevice, SavedHead};
 pub use saved_shape::{SavedLeaf, SavedPiece, SavedShape, ShapedDevice};
 pub use saving::{head_of, is_inside, lost_details};
 pub use way::{Taken, Way, is_sound, is_wanted};

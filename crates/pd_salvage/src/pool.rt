@@ -6,7 +6,8 @@ ghost use Rattle.pd_laid.specs.Salvage.{salvage_from};
 ghost use Rattle.pd_salvage.specs.Faults.{CountsSalvage};
 ghost use Rattle.pd_salvage.specs.Saved.{pool_of};
 
-use crate::saved::{Salvage, SalvageFault};
+use crate::fault::SalvageFault;
+use crate::saved::Salvage;
 use crate::saving::Saving;
 use pd_image::Device;
 use pd_kinds::ThinSuper;
@@ -32,10 +33,7 @@ pub fn salvage<D: Device>(
     ensures kept { OnlyReads (D.state dev.old) (D.state dev.new) }
     ensures faults { CountsSalvage result (D.state dev.old).faults (D.state dev.new).faults }
 {
-    let mut saving = match Saving::start(alloc, s) {
-        Ok(saving) => saving,
-        Err(_) => return Err(SalvageFault::Memory),
-    };
+    let mut saving = Saving::start(alloc, s)?;
     saving.save_all(dev)?;
     Ok(saving.saved())
 }

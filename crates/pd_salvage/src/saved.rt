@@ -6,15 +6,6 @@ use pd_runs::PackedRuns;
 use pd_value::Details;
 use std::marker::Model;
 
-/// Why there is no answer.
-#[derive(Clone, Copy, Debug, PartialEq, Eq)]
-pub enum SalvageFault {
-    /// Memory wasn't found.
-    Memory,
-    /// A read of the device failed.
-    Device,
-}
-
 /// What the superblock says of a pool.
 #[derive(Clone, Copy, Debug, PartialEq, Eq)]
 pub struct SavedHead {

@@ -7,9 +7,10 @@ ghost use Rattle.pd_salvage.specs.Saving.{FitLost, FitsDevice, FitsHead, head_of
 
 use crate::cursor::SavedCursor;
 use crate::details::SavedDetails;
+use crate::fault::SalvageFault;
 use crate::gather::gather;
 use crate::repeat::repeat_runs;
-use crate::saved::{Salvage, SalvageFault, SavedDevice, SavedHead};
+use crate::saved::{Salvage, SavedDevice, SavedHead};
 use pd_image::Device;
 use pd_kinds::ThinSuper;
 use pd_runs::{PackedRuns, RunPlace};
@@ -82,17 +83,12 @@ impl Saving {
         ensures kept { OnlyReads (D.state dev.old) (D.state dev.new) }
         ensures faults { CountsSalvage result (D.state dev.old).faults (D.state dev.new).faults }
     {
-        loop {
-            match self.tops.next(dev) {
-                Ok(Some((id, root))) => {
-                    if is_inside(root.0, self.s.meta_map.blocks) {
-                        self.save_device(dev, id, root.0)?;
-                    }
-                }
-                Ok(None) => return Ok(()),
-                Err(_) => return Err(SalvageFault::Device),
+        while let Some((id, root)) = self.tops.next(dev)? {
+            if is_inside(root.0, self.s.meta_map.blocks) {
+                self.save_device(dev, id, root.0)?;
             }
         }
+        Ok(())
     }
 
     /// Adds the runs of the device with this root, and answers how many mappings they have. Where the device that was
@@ -110,10 +106,8 @@ impl Saving {
     {
         if let Some(last) = self.last {
             if last.root == root {
-                return match repeat_runs(self.alloc, &mut self.runs, last.place) {
-                    Ok(()) => Ok(last.mappings),
-                    Err(_) => Err(SalvageFault::Memory),
-                };
+                repeat_runs(self.alloc, &mut self.runs, last.place)?;
+                return Ok(last.mappings);
             }
         }
         self.mappings.restart(self.s.meta_map.blocks, root);
@@ -145,10 +139,7 @@ impl Saving {
         ensures faults { CountsSalvage result (D.state dev.old).faults (D.state dev.new).faults }
     {
         let lost = lost_details(self.s.transaction, self.s.time);
-        let details = match self.details.find_or(dev, id, lost) {
-            Ok(details) => details,
-            Err(_) => return Err(SalvageFault::Device),
-        };
+        let details = self.details.find_or(dev, id, lost)?;
         let first = self.runs.len();
         let place = self.runs.end();
         let mapped = self.gather_device(dev, root)?;
@@ -158,10 +149,8 @@ impl Saving {
             mappings: mapped,
         });
         let runs = self.runs.len() - first;
-        match add_device(&mut self.devices, id, details, mapped, runs) {
-            Ok(()) => Ok(()),
-            Err(_) => Err(SalvageFault::Memory),
-        }
+        add_device(&mut self.devices, id, details, mapped, runs)?;
+        Ok(())
     }
 
     /// What was saved.

@@ -52,16 +52,12 @@ fn see_next<D: Device>(
     ensures faults { CountsSalvage result (D.state dev.old).faults (D.state dev.new).faults }
 {
     if let Some(k) = same_before(tops, i) {
-        return match see_again(alloc, seen, k) {
-            Ok(()) => Ok(()),
-            Err(_) => Err(SalvageFault::Memory),
-        };
+        see_again(alloc, seen, k)?;
+        return Ok(());
     }
     let one = visiting.see(dev, tops[i].root)?;
-    match seen.push(one) {
-        Ok(()) => Ok(()),
-        Err(_) => Err(SalvageFault::Memory),
-    }
+    seen.push(one)?;
+    Ok(())
 }
 
 /// The number of the device before this one, if that has the same root.

@@ -44,15 +44,9 @@ pub fn salvage_shape<D: Device>(
     ensures faults { CountsSalvage result (D.state dev.old).faults (D.state dev.new).faults }
 {
     let tops = read_tops(alloc, dev, s)?;
-    let mut visiting = match Visiting::start(alloc, s) {
-        Ok(visiting) => visiting,
-        Err(_) => return Err(SalvageFault::Memory),
-    };
+    let mut visiting = Visiting::start(alloc, s)?;
     let mut seen = see_all(alloc, &mut visiting, dev, tops.as_slice())?;
-    match shape_of(alloc, &visiting, tops.as_slice(), seen.as_mut_slice()) {
-        Ok(shape) => Ok(shape),
-        Err(_) => Err(SalvageFault::Memory),
-    }
+    Ok(shape_of(alloc, &visiting, tops.as_slice(), seen.as_mut_slice())?)
 }
 
 /// The shape of what was met of these devices, which it uses up.

@@ -33,9 +33,7 @@ fn make_top(id: u64, root: u64, details: Details) -> Top
         root,
         details: Details {
             mapped: 0,
-            transaction: details.transaction,
-            created: details.created,
-            snapped: details.snapped,
+            ..details
         },
     }
 }
@@ -57,14 +55,9 @@ fn add_top<D: Device>(
     ensures faults { CountsSalvage result (D.state dev.old).faults (D.state dev.new).faults }
 {
     let lost = lost_details(s.transaction, s.time);
-    let own = match details.find_or(dev, id, lost) {
-        Ok(own) => own,
-        Err(_) => return Err(SalvageFault::Device),
-    };
-    match found.push(make_top(id, root, own)) {
-        Ok(()) => Ok(()),
-        Err(_) => Err(SalvageFault::Memory),
-    }
+    let own = details.find_or(dev, id, lost)?;
+    found.push(make_top(id, root, own))?;
+    Ok(())
 }
 
 /// The devices of the pool with this superblock, by ascending id.
@@ -80,22 +73,14 @@ pub(crate) fn read_tops<D: Device>(
     ensures kept { OnlyReads (D.state dev.old) (D.state dev.new) }
     ensures faults { CountsSalvage result (D.state dev.old).faults (D.state dev.new).faults }
 {
-    let (mut tops, mut details) = match start(alloc, s) {
-        Ok(both) => both,
-        Err(_) => return Err(SalvageFault::Memory),
-    };
+    let (mut tops, mut details) = start(alloc, s)?;
     let mut found = Vec::new(alloc);
-    loop {
-        match tops.next(dev) {
-            Ok(Some((id, root))) => {
-                if is_inside(root.0, s.meta_map.blocks) {
-                    add_top(&mut found, &mut details, dev, s, id, root.0)?;
-                }
-            }
-            Ok(None) => return Ok(found),
-            Err(_) => return Err(SalvageFault::Device),
+    while let Some((id, root)) = tops.next(dev)? {
+        if is_inside(root.0, s.meta_map.blocks) {
+            add_top(&mut found, &mut details, dev, s, id, root.0)?;
         }
     }
+    Ok(found)
 }
 
 /// The cursors over the mapping tree and the details tree of the pool with this superblock.

@@ -161,18 +161,13 @@ impl Visiting {
         if self.way.again::<BlockTime>(b, range) {
             return Ok(true);
         }
-        match self.way.push::<BlockTime, D>(dev, b, range) {
-            Ok(()) => {}
-            Err(_) => return Err(SalvageFault::Device),
-        }
+        self.way.push::<BlockTime, D>(dev, b, range)?;
         if is_sound_inner(self.way.top(), b) {
             self.way.keep(b);
             return Ok(true);
         }
-        match self.note_top(b) {
-            Ok(()) => Ok(false),
-            Err(_) => Err(SalvageFault::Memory),
-        }
+        self.note_top(b)?;
+        Ok(false)
     }
 
     /// Reads what is saved of a leaf in a range that cuts it.
@@ -189,10 +184,7 @@ impl Visiting {
         ensures kept { OnlyReads (D.state dev.old) (D.state dev.new) }
         ensures faults { CountsSalvage result (D.state dev.old).faults (D.state dev.new).faults }
     {
-        match self.way.push::<BlockTime, D>(dev, b, range) {
-            Ok(()) => {}
-            Err(_) => return Err(SalvageFault::Device),
-        }
+        self.way.push::<BlockTime, D>(dev, b, range)?;
         let made = note_of(
             self.alloc,
             self.way.top(),
@@ -201,10 +193,7 @@ impl Visiting {
             self.s.data_map.blocks,
         );
         self.way.pop();
-        match made {
-            Ok(note) => Ok(part_of(note)),
-            Err(_) => Err(SalvageFault::Memory),
-        }
+        Ok(part_of(made?))
     }
 
     /// Visits a leaf that was noted.
@@ -222,16 +211,12 @@ impl Visiting {
         let range = raised(&range, self.least);
         let k = self.number(b) - 1;
         if self.notes[k as usize].lies_in(&range) {
-            return match self.take(k) {
-                Ok(()) => Ok(()),
-                Err(_) => Err(SalvageFault::Memory),
-            };
+            self.take(k)?;
+            return Ok(());
         }
         let note = self.read_part(dev, b, range)?;
-        match self.take_own(note) {
-            Ok(()) => Ok(()),
-            Err(_) => Err(SalvageFault::Memory),
-        }
+        self.take_own(note)?;
+        Ok(())
     }
 
     /// Meets a block in a range of keys: an inner node waits on the way, and a leaf is visited.
@@ -353,10 +338,8 @@ impl Visiting {
     {
         self.meet_tree(dev, root)?;
         let mapped = self.mapped_now();
-        match Numbers::of(self.alloc, self.met.as_slice()) {
-            Ok(met) => Ok(Seen { met, mapped }),
-            Err(_) => Err(SalvageFault::Memory),
-        }
+        let met = Numbers::of(self.alloc, self.met.as_slice())?;
+        Ok(Seen { met, mapped })
     }
 }
 

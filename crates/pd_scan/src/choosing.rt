@@ -39,7 +39,6 @@ fn best_of_fitting<D: Device>(
 ) -> Result<Option<Roots>, CheckFault>
     requires attached { IsAttached (D.state dev.old) }
     requires places { HavePlaces (size_of trees.old.tops) trees.old }
-    requires within { size_of trees.old.tops ≤ (D.state dev.old).blocks }
     requires best { IsBest (may_fit trees.old) (pair_of_trees trees.old) (λ t d. t < size_of trees.old.tops) (roots_of roots) }
     ensures best { IfOk result (λ found. IfSome (D.state dev.old).held (λ image. (data_blocks : ℕ) → AreTreesOf image data_blocks trees.old
         → IsBestOf (are_fitting (lost_graph image data_blocks) image) (pair_of_trees trees.old) (λ t d. t < size_of trees.old.tops) (found_of found))) }
@@ -47,10 +46,8 @@ fn best_of_fitting<D: Device>(
     ensures kept { OnlyReads (D.state dev.old) (D.state dev.new) }
     ensures faults { CountsCheckFault result (D.state dev.old).faults (D.state dev.new).faults }
 {
-    match ListCursors::new(alloc) {
-        Ok(mut cursors) => best_from(alloc, roots, trees, &mut cursors, dev),
-        Err(_) => Err(CheckFault::Memory),
-    }
+    let mut cursors = ListCursors::new(alloc)?;
+    best_from(alloc, roots, trees, &mut cursors, dev)
 }
 
 /// Chooses the best roots: those of a mapping tree and of a details tree that fit each other, with the latest time, of those
@@ -70,7 +67,6 @@ pub(crate) fn choose<D: Device>(
 ) -> Result<Option<Roots>, CheckFault>
     requires attached { IsAttached (D.state dev.old) }
     requires places { HavePlaces (size_of trees.tops) trees }
-    requires within { size_of trees.tops ≤ (D.state dev.old).blocks }
     ensures found { IfOk result (λ found. IfSome (D.state dev.old).held (λ image. (data_blocks : ℕ) → let graph = lost_graph image data_blocks in
         graph.nr ≡ size_of trees.tops → AreLostTrees graph image trees → IsFound graph image (found_of found))) }
     ensures inside { IfOk result (λ found. IfSome found (AreInside (size_of trees.tops))) }

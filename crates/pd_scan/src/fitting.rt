@@ -42,7 +42,6 @@ fn fit<D: Device>(
 ) -> Result<bool, Failed>
     requires attached { IsAttached (D.state dev.old) }
     requires places { HavePlaces (size_of trees.now.tops) trees.now }
-    requires within { size_of trees.now.tops ≤ (D.state dev.old).blocks }
     requires may { may_match trees.now top details ≡ true }
     ensures fits { IfOk result (λ fits. IfSome (D.state dev.old).held (λ image. (data_blocks : ℕ) → AreTreesOf image data_blocks trees.now
         → fits ≡ are_fitting (lost_graph image data_blocks) image top details)) }
@@ -63,7 +62,6 @@ fn best_by_numbers<D: Device>(
 ) -> Result<Option<Roots>, CheckFault>
     requires attached { IsAttached (D.state dev.old) }
     requires places { HavePlaces (size_of trees.old.tops) trees.old }
-    requires within { size_of trees.old.tops ≤ (D.state dev.old).blocks }
     ensures best { IfOk result (λ found. IfSome (D.state dev.old).held (λ image. (data_blocks : ℕ) → AreTreesOf image data_blocks trees.old
         → IsBestOf (are_fitting (lost_graph image data_blocks) image) (pair_of_trees trees.old) (λ t d. t < size_of trees.old.tops) (found_of found))) }
     ensures inside { IfOk result (λ found. IfSome found (AreInside (size_of trees.old.tops))) }
@@ -71,10 +69,8 @@ fn best_by_numbers<D: Device>(
     ensures faults { CountsCheckFault result (D.state dev.old).faults (D.state dev.new).faults }
 {
     number_lists(alloc, trees, cursors, dev)?;
-    match partners_by_sum(alloc, &trees.details, &trees.details_measures) {
-        Ok(by_number) => Ok(best_of_tops(trees, &by_number)),
-        Err(_) => Err(CheckFault::Memory),
-    }
+    let by_number = partners_by_sum(alloc, &trees.details, &trees.details_measures)?;
+    Ok(best_of_tops(trees, &by_number))
 }
 
 /// The best roots, where these are the best of all that may fit each other: these, if they fit. They do unless two
@@ -91,7 +87,6 @@ pub(crate) fn best_from<D: Device>(
 ) -> Result<Option<Roots>, CheckFault>
     requires attached { IsAttached (D.state dev.old) }
     requires places { HavePlaces (size_of trees.old.tops) trees.old }
-    requires within { size_of trees.old.tops ≤ (D.state dev.old).blocks }
     requires best { IsBest (may_match trees.old) (pair_of_trees trees.old) (λ t d. t < size_of trees.old.tops) (roots_of roots) }
     ensures best { IfOk result (λ found. IfSome (D.state dev.old).held (λ image. (data_blocks : ℕ) → AreTreesOf image data_blocks trees.old
         → IsBestOf (are_fitting (lost_graph image data_blocks) image) (pair_of_trees trees.old) (λ t d. t < size_of trees.old.tops) (found_of found))) }
@@ -100,9 +95,8 @@ pub(crate) fn best_from<D: Device>(
     ensures faults { CountsCheckFault result (D.state dev.old).faults (D.state dev.new).faults }
 {
     fitting_trees_match();
-    match fit(trees, cursors, dev, roots.top, roots.details) {
-        Ok(true) => Ok(Some(roots)),
-        Ok(false) => best_by_numbers(alloc, trees, cursors, dev),
-        Err(_) => Err(CheckFault::Device),
+    if fit(trees, cursors, dev, roots.top, roots.details)? {
+        return Ok(Some(roots));
     }
+    best_by_numbers(alloc, trees, cursors, dev)
 }

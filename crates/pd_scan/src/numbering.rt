@@ -57,7 +57,6 @@ fn number_details_tree<D: Device>(
 ) -> Result<(), CheckFault>
     requires attached { IsAttached (D.state dev.old) }
     requires places { HavePlaces (size_of trees.old.tops) trees.old }
-    requires within { size_of trees.old.tops ≤ (D.state dev.old).blocks }
     requires small { b < size_of trees.old.tops }
     ensures numbered { OnOk result (IfSome (D.state dev.old).held (λ image. (data_blocks : ℕ) → let graph = lost_graph image data_blocks in
         AreTold graph image trees.old → AreNumbered graph image trees.old.details_measures b numbers.old
@@ -70,10 +69,7 @@ fn number_details_tree<D: Device>(
         return Ok(());
     }
     let list = list_of_details(alloc, cursors, &trees.devices, dev, b)?;
-    let number = match number_of(numbers, list, b) {
-        Ok(number) => number,
-        Err(_) => return Err(CheckFault::Memory),
-    };
+    let number = number_of(numbers, list, b)?;
     let measure = trees.details_measures.get(b);
     trees.details_measures.set(b, numbered(measure, number));
     Ok(())
@@ -88,7 +84,6 @@ fn number_details<D: Device>(
 ) -> Result<Numbers, CheckFault>
     requires attached { IsAttached (D.state dev.old) }
     requires places { HavePlaces (size_of trees.old.tops) trees.old }
-    requires within { size_of trees.old.tops ≤ (D.state dev.old).blocks }
     ensures numbered { IfOk result (λ numbers. IfSome (D.state dev.old).held (λ image. (data_blocks : ℕ) → let graph = lost_graph image data_blocks in
         AreTold graph image trees.old → AreNumbered graph image trees.new.details_measures (size_of trees.old.tops) numbers)) }
     ensures measures { OnOk result (AreDetailsNumbered trees.old trees.new) }
@@ -113,7 +108,6 @@ fn number_top<D: Device>(
 ) -> Result<(), CheckFault>
     requires attached { IsAttached (D.state dev.old) }
     requires places { HavePlaces (size_of trees.old.tops) trees.old }
-    requires within { size_of trees.old.tops ≤ (D.state dev.old).blocks }
     requires small { top < size_of trees.old.tops }
     ensures numbered { OnOk result (IfSome (D.state dev.old).held (λ image. (data_blocks : ℕ) → let graph = lost_graph image data_blocks in
         AreTold graph image trees.old → AreTopsNumbered graph image numbers.now (size_of trees.old.tops) top trees.old.top_measures
@@ -142,7 +136,6 @@ fn number_tops<D: Device>(
 ) -> Result<(), CheckFault>
     requires attached { IsAttached (D.state dev.old) }
     requires places { HavePlaces (size_of trees.old.tops) trees.old }
-    requires within { size_of trees.old.tops ≤ (D.state dev.old).blocks }
     ensures numbered { OnOk result (IfSome (D.state dev.old).held (λ image. (data_blocks : ℕ) → let graph = lost_graph image data_blocks in
         AreTold graph image trees.old → AreTopsNumbered graph image numbers.now (size_of trees.old.tops) (size_of trees.old.tops) trees.new.top_measures)) }
     ensures measures { OnOk result (AreTopsChanged trees.old trees.new) }
@@ -168,7 +161,6 @@ pub(crate) fn number_lists<D: Device>(
 ) -> Result<(), CheckFault>
     requires attached { IsAttached (D.state dev.old) }
     requires places { HavePlaces (size_of trees.old.tops) trees.old }
-    requires within { size_of trees.old.tops ≤ (D.state dev.old).blocks }
     ensures fits { OnOk result (IfSome (D.state dev.old).held (λ image. (data_blocks : ℕ) → AreTreesOf image data_blocks trees.old
         → (top details : ℕ) → may_fit trees.new top details ≡ are_fitting (lost_graph image data_blocks) image top details)) }
     ensures pairs { OnOk result ((top details : ℕ) → pair_of_trees trees.new top details ≡ pair_of_trees trees.old top details) }

@@ -117,7 +117,6 @@ fn states_by_numbers<D: Device>(
 ) -> Result<Vec<State>, CheckFault>
     requires attached { IsAttached (D.state dev.old) }
     requires places { HavePlaces (size_of trees.old.tops) trees.old }
-    requires within { size_of trees.old.tops ≤ (D.state dev.old).blocks }
     ensures found { IfOk result (λ found. IfSome (D.state dev.old).held (λ image. (data_blocks : ℕ) → AreTreesOf image data_blocks trees.old
         → AreFoundStates (lost_graph image data_blocks) image found.items)) }
     ensures inside { IfOk result (λ found. AllByRecursion (λ (s : TheState). AreInside (size_of trees.old.tops) s.roots) found.items) }
@@ -126,10 +125,7 @@ fn states_by_numbers<D: Device>(
 {
     fitting_trees_match();
     number_lists(alloc, trees, cursors, dev)?;
-    match states_of_trees(alloc, trees) {
-        Ok(states) => Ok(states),
-        Err(_) => Err(CheckFault::Memory),
-    }
+    Ok(states_of_trees(alloc, trees)?)
 }
 
 /// The states of all trees that were measured. It reserves about 530 KiB, which is used as far as trees are deep, and takes 16
@@ -143,17 +139,14 @@ fn choose_states<D: Device>(
 ) -> Result<Vec<State>, CheckFault>
     requires attached { IsAttached (D.state dev.old) }
     requires places { HavePlaces (size_of trees.tops) trees }
-    requires within { size_of trees.tops ≤ (D.state dev.old).blocks }
     ensures found { IfOk result (λ found. IfSome (D.state dev.old).held (λ image. (data_blocks : ℕ) → AreTreesOf image data_blocks trees
         → AreFoundStates (lost_graph image data_blocks) image found.items)) }
     ensures inside { IfOk result (λ found. AllByRecursion (λ (s : TheState). AreInside (size_of trees.tops) s.roots) found.items) }
     ensures kept { OnlyReads (D.state dev.old) (D.state dev.new) }
     ensures faults { CountsCheckFault result (D.state dev.old).faults (D.state dev.new).faults }
 {
-    match ListCursors::new(alloc) {
-        Ok(mut cursors) => states_by_numbers(alloc, &mut trees, &mut cursors, dev),
-        Err(_) => Err(CheckFault::Memory),
-    }
+    let mut cursors = ListCursors::new(alloc)?;
+    states_by_numbers(alloc, &mut trees, &mut cursors, dev)
 }
 
 /// Finds the states of a pool of this format.

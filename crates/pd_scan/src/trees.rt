@@ -73,12 +73,7 @@ pub(crate) fn measure_lost<F: Format, D: Device>(
     ensures faults { CountsCheckFault result (D.state dev.old).faults (D.state dev.new).faults }
 {
     measures_are_those_of_lists();
-    let mut tables = match empty_tables(alloc, format.nr()) {
-        Ok(tables) => tables,
-        Err(_) => return Err(CheckFault::Memory),
-    };
-    match fill(&mut tables, format, dev) {
-        Ok(()) => Ok(trees_of(tables)),
-        Err(_) => Err(CheckFault::Device),
-    }
+    let mut tables = empty_tables(alloc, format.nr())?;
+    fill(&mut tables, format, dev)?;
+    Ok(trees_of(tables))
 }

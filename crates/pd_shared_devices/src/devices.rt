@@ -295,10 +295,7 @@ fn append<T: Copy>(items: &mut Vec<(u64, T)>, key: u64, value: T) -> Result<(), 
     ensures items { OnOk result (items.new.items ≡ items.old.items ++ (key, value) ∷ []) }
     ensures fault { IfErr result (λ fault. fault ≡ BuildFault.Memory) }
 {
-    match items.push((key, value)) {
-        Ok(()) => Ok(()),
-        Err(_) => Err(BuildFault::Memory),
-    }
+    Ok(items.push((key, value))?)
 }
 
 /// Adds a number at the end.
@@ -306,10 +303,7 @@ fn push(items: &mut Vec<u64>, item: u64) -> Result<(), BuildFault>
     ensures items { OnOk result (items.new.items ≡ items.old.items ++ item ∷ []) }
     ensures fault { IfErr result (λ fault. fault ≡ BuildFault.Memory) }
 {
-    match items.push(item) {
-        Ok(()) => Ok(()),
-        Err(_) => Err(BuildFault::Memory),
-    }
+    Ok(items.push(item)?)
 }
 
 /// Counts the use of a leaf.
@@ -321,10 +315,7 @@ fn count_use(uses: &mut BlockCounts, number: u64) -> Result<(), BuildFault>
     ensures listed { (before : List ℕ) → HasCounted uses.old.counts before → OnOk result (HasCounted uses.new.counts (number ∷ before)) }
     ensures fault { IfErr result (λ fault. fault ≡ BuildFault.Memory) }
 {
-    match uses.add_run(number, 1) {
-        Ok(()) => Ok(()),
-        Err(_) => Err(BuildFault::Memory),
-    }
+    Ok(uses.add_run(number, 1)?)
 }
 
 /// How many blocks of a row were counted twice.

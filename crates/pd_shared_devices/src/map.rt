@@ -52,10 +52,7 @@ pub fn write_leaves_map<D: Device>(
     ensures closed { StaysClosed (draft_state draft.old).device (draft_state draft.new).device }
     ensures faults { CountsBuildFault result (draft_state draft.old).device.faults (draft_state draft.new).device.faults }
 {
-    let mut counts = match named_counts(alloc, leaves, uses, room, draft.next()) {
-        Ok(counts) => counts,
-        Err(_) => return Err(BuildFault::Memory),
-    };
+    let mut counts = named_counts(alloc, leaves, uses, room, draft.next())?;
     write_meta_map(alloc, draft, &mut counts)
 }
 

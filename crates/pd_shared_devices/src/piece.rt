@@ -105,10 +105,7 @@ pub(crate) fn write_piece<D: Device>(
     ensures closed { StaysClosed (draft_state draft.old).device (draft_state draft.new).device }
     ensures faults { CountsBuildFault result (draft_state draft.old).device.faults (draft_state draft.new).device.faults }
 {
-    let mut builder = match LeafBuilder::<BlockTime>::new(alloc, held.number) {
-        Ok(builder) => builder,
-        Err(_) => return Err(BuildFault::Memory),
-    };
+    let mut builder = LeafBuilder::<BlockTime>::new(alloc, held.number)?;
     put_runs(&mut builder, row, draft, &held.runs)?;
     let _done = builder.is_done();
     Ok(())
@@ -201,8 +198,5 @@ pub(crate) fn add_head(row: &mut UpperBuilder, least: u64, place: u64) -> Result
     ensures added { OnOk result (row.new ≡ row.old ++ record { key = least; value = place } ∷ []) }
     ensures fault { IfErr result (λ fault. fault ≡ BuildFault.Memory) }
 {
-    match row.add(least, place) {
-        Ok(()) => Ok(()),
-        Err(_) => Err(BuildFault::Memory),
-    }
+    Ok(row.add(least, place)?)
 }

@@ -1,13 +1,11 @@
 //! The marks of a pool's metadata blocks.
 
-ghost use Rattle.std.specs.Prelude.{◌≡◌, ℕ, ◌+◌, ◌*◌, ◌<◌, ◌≤◌, ◌++◌, ◌∷◌, List, [], if◌then◌else◌, length, min, replicate, IfErr, IfOk, IfSome, OnOk};
+ghost use Rattle.std.specs.Prelude.{◌≡◌, ◌+◌, ◌*◌, ◌<◌, ◌≤◌, ◌++◌, ◌∷◌, [], if◌then◌else◌, length, min, replicate, IfErr, IfOk, IfSome, OnOk};
 ghost use Rattle.pd_kinds.specs.declared.check_fault.CheckFault.TheVariants.{Memory};
 ghost use Rattle.pd_kinds.specs.declared.limits.TheConstants.{MAX_META_BLOCKS};
 ghost use Rattle.pd_kinds.specs.CheckFault.{CountsCheckFault};
 ghost use Rattle.pd_image.specs.Device.{IsAttached, OnlyReads};
-ghost use Rattle.pd_tree.specs.Below.{items_below, nodes_below};
-ghost use Rattle.pd_tree.specs.Cursor.{cursor_items, cursor_nodes};
-ghost use Rattle.pd_tree.specs.Items.{root_of};
+ghost use Rattle.pd_tree.specs.Below.{nodes_below};
 ghost use Rattle.pd_shared_leaves.specs.declared.marks.Mark.TheVariants.{Unseen};
 ghost use Rattle.pd_shared_leaves.specs.Leaves.{roots_below};
 ghost use Rattle.pd_shared_leaves.specs.Marks.{AreMarked, is_shared};
@@ -27,22 +25,8 @@ fn no_marks(alloc: Global, blocks: u64) -> Result<Vec<Mark>, CheckFault>
     ensures memory { IfErr result (λ fault. fault ≡ Memory) }
 {
     let mut marks = Vec::new(alloc);
-    match marks.resize(blocks as usize, Mark::Unseen) {
-        Ok(()) => Ok(marks),
-        Err(_) => Err(CheckFault::Memory),
-    }
-}
-
-/// A cursor over the mapping tree with this root. Want of memory is the only error.
-fn start_devices(alloc: Global, root: u64) -> Result<Cursor<Root>, CheckFault>
-    ensures roots { (image : List (List ℕ)) → IfOk result (λ devices. cursor_items 8 root_of image devices ≡ items_below 8 root_of image 63 root) }
-    ensures nodes { (image : List (List ℕ)) → IfOk result (λ devices. cursor_nodes 8 image devices ≡ nodes_below 8 image 63 root) }
-    ensures memory { IfErr result (λ fault. fault ≡ Memory) }
-{
-    match Cursor::start(alloc, root) {
-        Ok(devices) => Ok(devices),
-        Err(_) => Err(CheckFault::Memory),
-    }
+    marks.resize(blocks as usize, Mark::Unseen)?;
+    Ok(marks)
 }
 
 /// Walks over the trees of all devices of the pool with this superblock, where no block has a mark yet.
@@ -63,7 +47,7 @@ fn walk_pool<D: Device>(
     ensures kept { OnlyReads (D.state dev.old) (D.state dev.new) }
     ensures faults { CountsCheckFault result (D.state dev.old).faults (D.state dev.new).faults }
 {
-    let mut devices = start_devices(alloc, s.mapping_root)?;
+    let mut devices = Cursor::<Root>::start(alloc, s.mapping_root)?;
     walk_devices(alloc, marks, &mut devices, dev)
 }
 

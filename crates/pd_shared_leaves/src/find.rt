@@ -58,10 +58,8 @@ impl SharedLeaves {
     {
         leaves_are_below_roots();
         let marks = find_marks(alloc, dev, s)?;
-        match rank_groups(alloc, marks.as_slice()) {
-            Ok(ranks) => Ok(SharedLeaves { marks, ranks }),
-            Err(_) => Err(CheckFault::Memory),
-        }
+        let ranks = rank_groups(alloc, marks.as_slice())?;
+        Ok(SharedLeaves { marks, ranks })
     }
 
     /// How many there are.

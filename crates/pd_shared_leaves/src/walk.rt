@@ -1,13 +1,12 @@
 //! The walk over the trees of a pool's devices, which marks the nodes that they have, and those that they share.
 
-ghost use Rattle.std.specs.Prelude.{◌≡◌, ℕ, ◌+◌, ◌<◌, ◌≤◌, [], ◌∷◌, ◌++◌, true, length, IfErr, IfOk, IfSome, OnOk};
+ghost use Rattle.std.specs.Prelude.{◌≡◌, ℕ, ◌+◌, ◌<◌, ◌≤◌, [], ◌∷◌, ◌++◌, true, length, IfErr, IfSome, OnOk};
 ghost use Rattle.pd_kinds.specs.declared.check_fault.CheckFault.TheVariants.{Memory};
 ghost use Rattle.pd_kinds.specs.CheckFault.{CountsCheckFault};
 ghost use Rattle.pd_image.specs.Device.{IsAttached, OnlyReads};
 ghost use Rattle.pd_tree.specs.Below.{kids_from};
-ghost use Rattle.pd_tree.specs.Cursor.{cursor_items, cursor_nodes, cursor_number};
+ghost use Rattle.pd_tree.specs.Cursor.{cursor_items, cursor_nodes};
 ghost use Rattle.pd_tree.specs.Items.{root_of};
-ghost use Rattle.pd_tree.specs.Next.{IsNext};
 ghost use Rattle.pd_shared_leaves.specs.Leaves.{roots_of};
 ghost use Rattle.pd_shared_leaves.specs.Marks.{is_followed, mark_at, reads_left};
 ghost use Rattle.pd_shared_leaves.specs.Walk.{AreWalked, IsMet, walk_number};
@@ -20,17 +19,6 @@ use pd_tree::Cursor;
 use pd_value::{BlockTime, Root};
 use std::alloc::Global;
 
-/// One block more waits. Want of memory is the only error.
-fn add_waiting(waiting: &mut Vec<u64>, b: u64) -> Result<(), CheckFault>
-    ensures added { OnOk result (waiting.new.items ≡ waiting.old.items ++ b ∷ []) }
-    ensures memory { IfErr result (λ fault. fault ≡ Memory) }
-{
-    match waiting.push(b) {
-        Ok(()) => Ok(()),
-        Err(_) => Err(CheckFault::Memory),
-    }
-}
-
 /// The children of an inner node wait; a leaf has none. Want of memory is the only error.
 #[tactic(auto, unfolding(pd_tree::specs::Below::kids_from))]
 fn add_children(waiting: &mut Vec<u64>, block: &Block) -> Result<(), CheckFault>
@@ -41,7 +29,7 @@ fn add_children(waiting: &mut Vec<u64>, block: &Block) -> Result<(), CheckFault>
         return Ok(());
     }
     for i in 0..entries::<BlockTime>(block) {
-        add_waiting(waiting, child::<BlockTime>(block, i))?;
+        waiting.push(child::<BlockTime>(block, i))?;
     }
     Ok(())
 }
@@ -66,13 +54,9 @@ fn read_node<D: Device>(
     ensures kept { OnlyReads (D.state dev.old) (D.state dev.new) }
     ensures faults { CountsCheckFault result (D.state dev.old).faults (D.state dev.new).faults }
 {
-    match dev.read(b as u64, block) {
-        Ok(()) => {
-            marks[b] = marks[b].after_read(block);
-            add_children(waiting, block)
-        }
-        Err(_) => Err(CheckFault::Device),
-    }
+    dev.read(b as u64, block)?;
+    marks[b] = marks[b].after_read(block);
+    add_children(waiting, block)
 }
 
 /// Meets a block once more, or for the first time: a node is read that wasn't met, and an inner one that the trees had
@@ -125,33 +109,12 @@ fn walk_tree<D: Device>(
     ensures kept { OnlyReads (D.state dev.old) (D.state dev.new) }
     ensures faults { CountsCheckFault result (D.state dev.old).faults (D.state dev.new).faults }
 {
-    add_waiting(waiting, root)?;
+    waiting.push(root)?;
     let mut block = Block::zeros();
     while let Some(b) = waiting.pop() {
         meet(marks, waiting, b, dev, &mut block)?;
     }
     Ok(())
-}
-
-/// The next entry of the mapping tree, or `None` after the last one.
-fn next_root<D: Device>(
-    devices: &mut Cursor<Root>,
-    dev: &mut D,
-) -> Result<Option<(u64, Root)>, CheckFault>
-    requires attached { IsAttached (D.state dev.old) }
-    ensures next { IfOk result (λ item. IfSome (D.state dev.old).held (λ image. IsNext item (cursor_items 8 root_of image devices.old) (cursor_items 8 root_of image devices.new))) }
-    ensures falls { IfOk result (λ item. IfSome item (λ _. cursor_number 8 devices.new < cursor_number 8 devices.old)) }
-    ensures reads { IfSome (D.state dev.old).held (λ image. OnOk result (
-        (D.state dev.new).reads + length (cursor_nodes 8 image devices.new) ≤ (D.state dev.old).reads + length (cursor_nodes 8 image devices.old))) }
-    ensures reads_failed { IfSome (D.state dev.old).held (λ image.
-        (D.state dev.new).reads ≤ (D.state dev.old).reads + length (cursor_nodes 8 image devices.old)) }
-    ensures kept { OnlyReads (D.state dev.old) (D.state dev.new) }
-    ensures faults { CountsCheckFault result (D.state dev.old).faults (D.state dev.new).faults }
-{
-    match devices.next(dev) {
-        Ok(item) => Ok(item),
-        Err(_) => Err(CheckFault::Device),
-    }
 }
 
 /// Walks over the trees of the devices that are left, one after another.
@@ -174,7 +137,7 @@ pub(crate) fn walk_devices<D: Device>(
     ensures faults { CountsCheckFault result (D.state dev.old).faults (D.state dev.new).faults }
 {
     let mut waiting = Vec::new(alloc);
-    while let Some((_, root)) = next_root(devices, dev)? {
+    while let Some((_, root)) = devices.next(dev)? {
         walk_tree(marks, &mut waiting, root.0, dev)?;
     }
     Ok(())

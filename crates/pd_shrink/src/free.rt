@@ -14,7 +14,7 @@ ghost use Rattle.pd_smap.specs.Entries.{IsIndex, IsOverflow, index_from, place_i
 ghost use Rattle.pd_smap.specs.Overflow.{overflow_reads};
 ghost use Rattle.pd_smap.specs.Steps.{bits_by};
 ghost use Rattle.pd_tree.specs.Below.{nodes_below};
-ghost use Rattle.pd_tree.specs.Cursor.{cursor_items, cursor_nodes, cursor_room};
+ghost use Rattle.pd_tree.specs.Cursor.{cursor_items, cursor_nodes};
 ghost use Rattle.pd_shrink.specs.Failing.{CountsMeta};
 ghost use Rattle.pd_shrink.specs.Gathered.{Searched, standing, with_reads};
 ghost use Rattle.pd_shrink.specs.Unused.{unused_below};
@@ -58,8 +58,6 @@ pub fn find_free<A: Device>(
     wanted: usize,
 ) -> Result<FreeBlocks, ShrinkFault>
     requires attached { IsAttached (A.state meta.old) }
-    requires index { map.now.bitmap_root < (A.state meta.old).blocks }
-    requires overflow { map.now.overflow_root < (A.state meta.old).blocks }
     ensures number { IfOk result (λ free. IfSome (A.state meta.old).held (λ image. (blocks : ℕ) → IsIndex image map.now.bitmap_root blocks → IsOverflow image map.now.overflow_root → end ≤ blocks
         → free.number ≡ length (unused_below image map.now end))) }
     ensures first { IfOk result (λ free. IfSome (A.state meta.old).held (λ image. (blocks : ℕ) → IsIndex image map.now.bitmap_root blocks → IsOverflow image map.now.overflow_root → end ≤ blocks
@@ -73,10 +71,7 @@ pub fn find_free<A: Device>(
     ensures kept { OnlyReads (A.state meta.old) (A.state meta.new) }
     ensures faults { CountsMeta result (A.state meta.old).faults (A.state meta.new).faults }
 {
-    let mut index = match Cursor::start(alloc, map.bitmap_root) {
-        Ok(cursor) => cursor,
-        Err(_) => return Err(ShrinkFault::Memory),
-    };
+    let mut index = Cursor::start(alloc, map.bitmap_root)?;
     let mut overflow = match Overflow::start(alloc, meta, map.overflow_root) {
         Ok(overflow) => overflow,
         Err(CheckFault::Memory) => return Err(ShrinkFault::Memory),
@@ -100,7 +95,6 @@ fn gather<A: Device>(
     free: &mut FreeBlocks,
 ) -> Result<(), ShrinkFault>
     requires attached { IsAttached (A.state meta.old) }
-    requires within { cursor_room index.old ≤ (A.state meta.old).blocks }
     requires room { free.old.number + end < 2 ^ 64 }
     ensures searched { OnOk result (Searched wanted (bits_by (λ image. place_in (cursor_items 16 index_from image index.old))) 0 end
         (with_reads (λ image. length (cursor_nodes 16 image index.old) + bitmaps_for end) (standing (A.state meta.old) free.old overflow.old)) (standing (A.state meta.new) free.new overflow.new)) }

@@ -100,13 +100,9 @@ fn gather_entry<A: Device>(
         Err(_) => return Err(ShrinkFault::Meta),
     };
     if unused {
-        match gather_block(free, wanted, b) {
-            Ok(()) => Ok(()),
-            Err(_) => Err(ShrinkFault::Memory),
-        }
-    } else {
-        Ok(())
+        gather_block(free, wanted, b)?;
     }
+    Ok(())
 }
 
 /// Adds the free ones of so many blocks from `base + from` on, which are entries of the bitmap from `from` on.

@@ -125,14 +125,8 @@ pub(crate) fn move_kept(
     ensures { IfOk result (λ moved. IsKept (shared_of kept.now) (moved_in kept.now end (moves_in moves.now)) moved) }
 {
     match kept {
-        Kept::Pool(saved) => match move_pool(alloc, saved, end, moves) {
-            Ok(moved) => Ok(Kept::Pool(moved)),
-            Err(fault) => Err(fault),
-        },
-        Kept::Shape(saved) => match move_shape(alloc, saved, end, moves) {
-            Ok(moved) => Ok(Kept::Shape(moved)),
-            Err(fault) => Err(fault),
-        },
+        Kept::Pool(saved) => Ok(Kept::Pool(move_pool(alloc, saved, end, moves)?)),
+        Kept::Shape(saved) => Ok(Kept::Shape(move_shape(alloc, saved, end, moves)?)),
     }
 }
 

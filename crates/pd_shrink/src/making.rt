@@ -29,10 +29,7 @@ pub(crate) fn read_first<A: Device>(alloc: Global, meta: &mut A) -> Result<Box<B
     ensures kept { OnlyReads (A.state meta.old) (A.state meta.new) }
     ensures faults { CountsMeta result (A.state meta.old).faults (A.state meta.new).faults }
 {
-    let mut block = match Box::new(alloc, Block::zeros()) {
-        Ok(block) => block,
-        Err(_) => return Err(ShrinkFault::Memory),
-    };
+    let mut block = Box::new(alloc, Block::zeros())?;
     match meta.read(0, &mut block) {
         Ok(()) => Ok(block),
         Err(_) => Err(ShrinkFault::Meta),
@@ -81,16 +78,10 @@ pub(crate) fn find_moves<A: Device>(
     ensures faults { CountsPlanning result (A.state meta.old).faults (A.state meta.new).faults }
 {
     stored_free_blocks_are_free();
-    let sources = match find_sources(alloc, kept, end) {
-        Ok(sources) => sources,
-        Err(_) => return Err(ShrinkFault::Memory),
-    };
+    let sources = find_sources(alloc, kept, end)?;
     let free = find_free(alloc, meta, map, end, sources.len())?;
     let from = sources.as_slice();
     look_at_room(from, free.number, end, each, pool_blocks)?;
     let to = free.first.as_slice();
-    match pair_up(alloc, from, to) {
-        Ok(moves) => Ok(moves),
-        Err(_) => Err(ShrinkFault::Memory),
-    }
+    Ok(pair_up(alloc, from, to)?)
 }

@@ -204,10 +204,7 @@ impl Shrink {
         requires once { AreOnce moves.items }
         ensures { Finishes (shared_of kept.now) (moved_in kept.now end (moves_in moves.items)) moves.items each output_blocks pool_blocks result }
     {
-        let moved = match move_kept(alloc, kept, end, moves.as_slice()) {
-            Ok(moved) => moved,
-            Err(_) => return Err(ShrinkFault::Memory),
-        };
+        let moved = move_kept(alloc, kept, end, moves.as_slice())?;
         let room = output_blocks.min(MAX_META_BLOCKS);
         let need = match need_of_kept(alloc, &moved, room) {
             Some(need) => need,

@@ -9,7 +9,7 @@ ghost use Rattle.pd_kinds.specs.Trees.{stored_data_in};
 ghost use Rattle.pd_image.specs.Device.{IsAttached, OnlyReads};
 ghost use Rattle.pd_count.specs.Counted.{count_of};
 ghost use Rattle.pd_tree.specs.Below.{nodes_below};
-ghost use Rattle.pd_tree.specs.Cursor.{cursor_items, cursor_nodes, cursor_room};
+ghost use Rattle.pd_tree.specs.Cursor.{cursor_items, cursor_nodes};
 ghost use Rattle.pd_smap.specs.Entries.{IsIndex, IsOverflow, index_from, index_of, overflow_of, place_in};
 ghost use Rattle.pd_smap.specs.Counted.{faults_from};
 ghost use Rattle.pd_smap.specs.Reports.{Adds, AddsFront};
@@ -45,8 +45,6 @@ pub fn compare_data<D: Device>(
     requires attached { IsAttached (D.state dev.old) }
     requires number { root.now.blocks ≡ counts.now.size }
     requires room { report.old.total + root.now.blocks < 2 ^ 64 }
-    requires index { root.now.bitmap_root < (D.state dev.old).blocks }
-    requires overflow { root.now.overflow_root < (D.state dev.old).blocks }
     ensures added { OnOk result (IfSome (D.state dev.old).held (λ image. IsOverflow image root.now.overflow_root → IsIndex image root.now.bitmap_root root.now.blocks
         → Adds (faults_from DataBlock (count_of counts.now) (stored_data_in image (index_of image root.now.bitmap_root) (overflow_of image root.now.overflow_root)) 0 root.now.blocks) report.old report.new)) }
     ensures front { OnErr result (IfSome (D.state dev.old).held (λ image. IsOverflow image root.now.overflow_root → IsIndex image root.now.bitmap_root root.now.blocks
@@ -80,7 +78,6 @@ fn compare_listed<D: Device>(
     requires attached { IsAttached (D.state dev.old) }
     requires number { blocks ≡ counts.now.size }
     requires room { report.old.total + blocks < 2 ^ 64 }
-    requires within { cursor_room index.old ≤ (D.state dev.old).blocks }
     ensures went { OnOk result (ComparesRange (record { space = DataBlock; refs = count_of counts.now; bits = bits_by (λ image. place_in (cursor_items 16 index_from image index.old)) }) 0 blocks
         (with_nodes (λ image. length (cursor_nodes 16 image index.old) + bitmaps_for blocks) (comparison_state (D.state dev.old) overflow.old report.old)) (comparison_state (D.state dev.new) overflow.new report.new)) }
     ensures stopped { OnErr result (Stopped (record { space = DataBlock; refs = count_of counts.now; bits = bits_by (λ image. place_in (cursor_items 16 index_from image index.old)) }) 0 blocks
@@ -98,14 +95,12 @@ fn compare_listed<D: Device>(
 /// The place of the next bitmap, which is outside of every device where no entry is left.
 pub fn next_place<D: Device>(dev: &mut D, index: &mut Cursor<IndexEntry>) -> Result<u64, Failed>
     requires attached { IsAttached (D.state dev.old) }
-    requires within { cursor_room index.old ≤ (D.state dev.old).blocks }
     ensures first { IfOk result (λ place. IfSome (D.state dev.old).held (λ image. place_in (cursor_items 16 index_from image index.old) 0 ≡ place)) }
     ensures rest { OnOk result (IfSome (D.state dev.old).held (λ image. (i : ℕ)
         → place_in (cursor_items 16 index_from image index.old) (i + 1) ≡ place_in (cursor_items 16 index_from image index.new) i)) }
     ensures reads { OnOk result (IfSome (D.state dev.old).held (λ image.
         (D.state dev.new).reads + length (cursor_nodes 16 image index.new) ≤ (D.state dev.old).reads + length (cursor_nodes 16 image index.old))) }
     ensures reads_failed { IfSome (D.state dev.old).held (λ image. (D.state dev.new).reads ≤ (D.state dev.old).reads + length (cursor_nodes 16 image index.old)) }
-    ensures room { cursor_room index.new ≡ 0 }
     ensures kept { OnlyReads (D.state dev.old) (D.state dev.new) }
     ensures faults { CountsFault result (D.state dev.old).faults (D.state dev.new).faults }
 {

@@ -45,7 +45,6 @@ pub fn compare_meta<D: Device>(
     requires few { root.now.blocks ≤ MAX_META_BLOCKS }
     requires room { report.old.total + root.now.blocks < 2 ^ 64 }
     requires index { root.now.bitmap_root < (D.state dev.old).blocks }
-    requires overflow { root.now.overflow_root < (D.state dev.old).blocks }
     ensures added { OnOk result (IfSome (D.state dev.old).held (λ image. IsOverflow image root.now.overflow_root
         → Adds (faults_from Meta (count_at audit.now) (stored_meta_in image root.now.bitmap_root (overflow_of image root.now.overflow_root)) 0 root.now.blocks) report.old report.new)) }
     ensures front { OnErr result (IfSome (D.state dev.old).held (λ image. IsOverflow image root.now.overflow_root

@@ -1,7 +1,6 @@
 //! The counts of 3 and more, taken from the overflow tree side by side with the bitmaps.
 
 ghost use Rattle.std.specs.Prelude.{◌≡◌};
-ghost use Rattle.pd_tree.specs.Cursor.{cursor_room};
 
 use pd_image::{Device, Failed};
 use pd_kinds::CheckFault;
@@ -14,7 +13,6 @@ use std::alloc::Global;
 pub struct Overflow {
     entry: Option<(u64, Count)>,
     rest: Cursor<Count>,
-    ghost begun: { cursor_room rest ≡ 0 },
 }
 
 impl Overflow {
@@ -30,7 +28,6 @@ impl Overflow {
     /// The entries of the tree with this root. It takes the memory of a cursor, and reads the way to the first entry.
     pub fn start<D: Device>(alloc: Global, dev: &mut D, root: u64) -> Result<Overflow, CheckFault>
         requires attached { IsAttached (D.state dev.old) }
-        requires within { root < (D.state dev.old).blocks }
         ensures items { IfOk result (λ overflow. IfSome (D.state dev.old).held (λ image. overflow_items overflow image ≡ items_below 4 count_from image 63 root)) }
         ensures reads { IfOk result (λ overflow. IfSome (D.state dev.old).held (λ image.
             (D.state dev.new).reads + overflow_reads overflow image ≤ (D.state dev.old).reads + length (nodes_below 4 image 63 root))) }
@@ -38,14 +35,9 @@ impl Overflow {
         ensures kept { OnlyReads (D.state dev.old) (D.state dev.new) }
         ensures faults { CountsCheckFault result (D.state dev.old).faults (D.state dev.new).faults }
     {
-        let mut rest = match Cursor::start(alloc, root) {
-            Ok(cursor) => cursor,
-            Err(_) => return Err(CheckFault::Memory),
-        };
-        match rest.next(dev) {
-            Ok(entry) => Ok(Overflow { entry, rest }),
-            Err(_) => Err(CheckFault::Device),
-        }
+        let mut rest = Cursor::start(alloc, root)?;
+        let entry = rest.next(dev)?;
+        Ok(Overflow { entry, rest })
     }
 
     /// The count of block `b`, where later blocks alone are asked for afterwards.

@@ -59,10 +59,7 @@ pub(crate) fn write_index_tree<D: Device>(
     // The places of the bitmaps stand before the next one, so they are numbers too.
     let _behind = draft.next();
     let number = bitmap_number(counts);
-    let mut builder = match Builder::<IndexEntry>::new(alloc, number) {
-        Ok(builder) => builder,
-        Err(_) => return Err(BuildFault::Memory),
-    };
+    let mut builder = Builder::<IndexEntry>::new(alloc, number)?;
     for i in 0..number {
         builder.put(draft, i, entry_of(counts, i, first))?;
     }

@@ -86,10 +86,7 @@ fn add_one(counts: &mut Counts, b: u64) -> Result<(), BuildFault>
     ensures counted { OnOk result (CountsOwn b 1 counts.old counts.new) }
     ensures fault { IfErr result (λ fault. fault ≡ BuildFault.Memory) }
 {
-    match counts.add(b) {
-        Ok(()) => Ok(()),
-        Err(_) => Err(BuildFault::Memory),
-    }
+    Ok(counts.add(b)?)
 }
 
 /// Writes the map that stores these counts, and answers its root.
@@ -137,9 +134,6 @@ fn put_index<D: Device>(
     ensures closed { StaysClosed (draft_state draft.old).device (draft_state draft.new).device }
     ensures faults { CountsBuildFault result (draft_state draft.old).device.faults (draft_state draft.new).device.faults }
 {
-    let block = match index_block(alloc, counts, draft.next()) {
-        Ok(block) => block,
-        Err(_) => return Err(BuildFault::Memory),
-    };
+    let block = index_block(alloc, counts, draft.next())?;
     put_block(draft, &block)
 }

@@ -35,10 +35,7 @@ pub(crate) fn write_overflow<D: Device>(
     ensures faults { CountsBuildFault result (draft_state draft.old).device.faults (draft_state draft.new).device.faults }
 {
     let number = overflow_number(counts);
-    let mut builder = match Builder::<Count>::new(alloc, number) {
-        Ok(builder) => builder,
-        Err(_) => return Err(BuildFault::Memory),
-    };
+    let mut builder = Builder::<Count>::new(alloc, number)?;
     let size = counts.size();
     let mut high = next_high(counts, 0);
     while high < size {

@@ -1,7 +1,7 @@
 -- What is left of a cursor whose next entry is at hand.
 use Rattle.std.specs.Prelude.{ℕ, zero, suc, List, ◌++◌, Option, Some, None}
 use Rattle.std.specs.Option.{option_to_list}
-use Rattle.pd_tree.specs.Cursor.{cursor_items, cursor_nodes, cursor_number, cursor_room}
+use Rattle.pd_tree.specs.Cursor.{cursor_items, cursor_nodes, cursor_number}
 use Rattle.pd_thin.specs.declared.peeked.Peeked.{Peeked}
 
 -- the entries: the one at hand, and then those of the cursor
@@ -19,7 +19,3 @@ number_with (Some x) number = suc number
 
 abbrev pub peeked_number : {V : Type 0} → ℕ → Peeked V → ℕ
 peeked_number size ahead = number_with ahead.first (cursor_number size ahead.cursor)
-
--- how many blocks the device must have for what is still to be read of the root
-abbrev pub peeked_room : {V : Type 0} → Peeked V → ℕ
-peeked_room ahead = cursor_room ahead.cursor

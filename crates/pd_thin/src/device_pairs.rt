@@ -7,7 +7,7 @@ ghost use Rattle.pd_image.specs.Device.{IsAttached, OnlyReads};
 ghost use Rattle.pd_graph.specs.Audit.{blocks_of, note_at, KeepsButRules};
 ghost use Rattle.pd_tree.specs.Items.{root_of};
 ghost use Rattle.pd_whole.specs.Charges.{Charges};
-ghost use Rattle.pd_thin.specs.Peeked.{peeked_items, peeked_room};
+ghost use Rattle.pd_thin.specs.Peeked.{peeked_items};
 ghost use Rattle.pd_thin.specs.DeviceCursors.{HaveNoEntry, cursors_number, cursors_reads};
 ghost use Rattle.pd_thin.specs.DevicePairs.{details_of, firsts, found_same, mapped_of, mapped_test, turn_of, IsLeft, IsOnWay};
 
@@ -118,8 +118,6 @@ fn take_turn<D: Device>(
     dev: &mut D,
 ) -> Result<Option<bool>, Failed>
     requires attached { IsAttached (D.state dev.old) }
-    requires room { peeked_room cursors.old.tops ≡ 0 }
-    requires room_too { peeked_room cursors.old.details ≡ 0 }
     ensures way { IfOk result (λ both. IfSome (D.state dev.old).held (λ image.
         let tops = peeked_items 8 root_of image cursors.old.tops in
         let details = peeked_items 24 details_of image cursors.old.details in
@@ -130,8 +128,6 @@ fn take_turn<D: Device>(
     ensures reads { IfSome (D.state dev.old).held (λ image. OnOk result (
         (D.state dev.new).reads + cursors_reads image cursors.new ≤ (D.state dev.old).reads + cursors_reads image cursors.old)) }
     ensures reads_failed { IfSome (D.state dev.old).held (λ image. (D.state dev.new).reads ≤ (D.state dev.old).reads + cursors_reads image cursors.old) }
-    ensures room { peeked_room cursors.new.tops ≡ 0 }
-    ensures room_too { peeked_room cursors.new.details ≡ 0 }
     ensures rules { KeepsButRules audit.old audit.new }
     ensures kept { OnlyReads (D.state dev.old) (D.state dev.new) }
     ensures faults { CountsFault result (D.state dev.old).faults (D.state dev.new).faults }
@@ -163,8 +159,6 @@ pub(crate) fn compare<D: Device>(
     dev: &mut D,
 ) -> Result<bool, Failed>
     requires attached { IsAttached (D.state dev.old) }
-    requires room { peeked_room cursors.old.tops ≡ 0 }
-    requires room_too { peeked_room cursors.old.details ≡ 0 }
     ensures compared { IfOk result (λ same. IfSome (D.state dev.old).held (λ image.
         let tops = peeked_items 8 root_of image cursors.old.tops in
         let details = peeked_items 24 details_of image cursors.old.details in

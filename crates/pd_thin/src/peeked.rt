@@ -19,7 +19,7 @@ impl<V: Value> Peeked<V> {
     ghost use Rattle.pd_kinds.specs.Objects.{CountsFault};
     ghost use Rattle.pd_image.specs.Device.{IsAttached, OnlyReads};
     ghost use Rattle.pd_tree.specs.Below.{items_below, nodes_below};
-    ghost use Rattle.pd_thin.specs.Peeked.{peeked_items, peeked_nodes, peeked_number, peeked_room};
+    ghost use Rattle.pd_thin.specs.Peeked.{peeked_items, peeked_nodes, peeked_number};
 
     /// A cursor that has no tree yet. It takes all memory that it needs; want of it is the only error.
     pub(crate) fn new(alloc: Global) -> Result<Peeked<V>, AllocError>
@@ -34,13 +34,11 @@ impl<V: Value> Peeked<V> {
     /// Goes to the first entry of the tree with this root.
     pub(crate) fn begin<D: Device>(&mut self, dev: &mut D, root: u64) -> Result<(), Failed>
         requires attached { IsAttached (D.state dev.old) }
-        requires within { root < (D.state dev.old).blocks }
         ensures items { OnOk result (IfSome (D.state dev.old).held (λ image. peeked_items V.SIZE V.decoded image self.new ≡ items_below V.SIZE V.decoded image 63 root)) }
         ensures end { OnOk result (IfSome (D.state dev.old).held (λ image. IfNone self.new.first (peeked_items V.SIZE V.decoded image self.new ≡ []))) }
         ensures reads { IfSome (D.state dev.old).held (λ image. OnOk result (
             (D.state dev.new).reads + length (peeked_nodes V.SIZE image self.new) ≤ (D.state dev.old).reads + length (nodes_below V.SIZE image 63 root))) }
         ensures reads_failed { IfSome (D.state dev.old).held (λ image. (D.state dev.new).reads ≤ (D.state dev.old).reads + length (nodes_below V.SIZE image 63 root)) }
-        ensures room { peeked_room self.new ≡ 0 }
         ensures kept { OnlyReads (D.state dev.old) (D.state dev.new) }
         ensures faults { CountsFault result (D.state dev.old).faults (D.state dev.new).faults }
     {
@@ -52,7 +50,6 @@ impl<V: Value> Peeked<V> {
     /// Goes on behind the next entry.
     pub(crate) fn advance<D: Device>(&mut self, dev: &mut D) -> Result<(), Failed>
         requires attached { IsAttached (D.state dev.old) }
-        requires room { peeked_room self.old ≡ 0 }
         ensures items { OnOk result (IfSome (D.state dev.old).held (λ image.
             peeked_items V.SIZE V.decoded image self.old ≡ option_to_list self.old.first ++ peeked_items V.SIZE V.decoded image self.new)) }
         ensures end { OnOk result (IfSome (D.state dev.old).held (λ image. IfNone self.new.first (peeked_items V.SIZE V.decoded image self.new ≡ []))) }
@@ -60,7 +57,6 @@ impl<V: Value> Peeked<V> {
             (D.state dev.new).reads + length (peeked_nodes V.SIZE image self.new) ≤ (D.state dev.old).reads + length (peeked_nodes V.SIZE image self.old))) }
         ensures reads_failed { IfSome (D.state dev.old).held (λ image. (D.state dev.new).reads ≤ (D.state dev.old).reads + length (peeked_nodes V.SIZE image self.old)) }
         ensures number { OnOk result (IsSome self.old.first → peeked_number V.SIZE self.new < peeked_number V.SIZE self.old) }
-        ensures room { peeked_room self.new ≡ 0 }
         ensures kept { OnlyReads (D.state dev.old) (D.state dev.new) }
         ensures faults { CountsFault result (D.state dev.old).faults (D.state dev.new).faults }
     {

@@ -24,8 +24,8 @@ use Rattle.pd_kept.proofs.WeighingLemmas.{text_is}
 use Rattle.pd_repair.specs.declared.fault.RepairFault.{RepairFault}
 use Rattle.pd_repair.specs.declared.fault.RepairFault.TheVariants as fault
 use Rattle.pd_repair.specs.Repaired.{AnswersSuper, CountsRepair, HasSuper, IsRepairedBy, IsRepairedFromAs, NamesRules}
-use Rattle.pd_salvage.specs.declared.saved.SalvageFault.{SalvageFault}
-use Rattle.pd_salvage.specs.declared.saved.SalvageFault.TheVariants as f
+use Rattle.pd_salvage.specs.declared.fault.SalvageFault.{SalvageFault}
+use Rattle.pd_salvage.specs.declared.fault.SalvageFault.TheVariants as f
 use Rattle.pd_salvage.specs.Faults.{CountsSalvage}
 use Rattle.pd_scan.specs.Roots.{lost_fields}
 use Rattle.pd_tools.specs.Ending.{repair_ended}

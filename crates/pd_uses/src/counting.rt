@@ -58,10 +58,7 @@ pub(crate) fn exclusive_blocks<D: Device>(
 {
     leaves_are_below_roots();
     pieces_are_those_of_the_shape();
-    let mut tallies = match Tallies::new(alloc, s.data_map.blocks) {
-        Ok(tallies) => tallies,
-        Err(_) => return Err(QueryFault::Memory),
-    };
+    let mut tallies = Tallies::new(alloc, s.data_map.blocks)?;
     tally_pool(alloc, s, dev, &mut tallies)?;
     Ok(tallies.into_exclusive())
 }

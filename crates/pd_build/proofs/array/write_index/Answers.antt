@@ -11,10 +11,10 @@ loop-i-init g c =
     let first = c.next.result - c.args.count in
     let all = array_items first c.args.count in
     let count : length all ≡ c.args.count = length-array_items first c.args.count in
-    let n = c.in-Ok.ensures in
+    let n = c.in_ok-builder.ensures in
     record {
       same_reference = refl;
-      building = building_start all c.in-Ok.builder c.requires.closed (n.blocks c.args.draft.now.next all count) (n.root c.args.draft.now.next all count)
+      building = building_start all c.in_ok-builder.builder c.requires.closed (n.blocks c.args.draft.now.next all count) (n.root c.args.draft.now.next all count)
           (n.items ∙ sym count) (n.room ∙ ap (need_tree 8) (sym count)) n.low (array_ascends first c.args.count);
     }
 

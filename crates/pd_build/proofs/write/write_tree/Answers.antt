@@ -11,8 +11,8 @@ pub put_items-requires-clause-building : goal.put_items-requires-clause-building
 put_items-requires-clause-building g c =
     let all = entries_of g.V.Value.code c.args.items.now in
     let count : length all ≡ length c.args.items.now = length-entries g.V.Value.code c.args.items.now in
-    let n = c.in-Ok.ensures in
-    building_start all c.in-Ok.builder c.requires.closed (n.blocks c.args.draft.now.next all count) (n.root c.args.draft.now.next all count)
+    let n = c.in_ok-builder.ensures in
+    building_start all c.in_ok-builder.builder c.requires.closed (n.blocks c.args.draft.now.next all count) (n.root c.args.draft.now.next all count)
     (n.items ∙ sym count) (n.room ∙ ap (need_tree g.V.Value.SIZE) (sym count)) n.low (rw (keys-entries g.V.Value.code c.args.items.now) c.requires.ascend)
 
 pub returns-clause-closed : goal.returns-clause-closed

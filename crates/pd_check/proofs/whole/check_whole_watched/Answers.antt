@@ -15,38 +15,38 @@ whole_report-requires-clause-none g c =
     none_reported _ _ c.in_ok-audit.audit c.in_ok-audit.report (c.in_ok-audit.ensures.number ∙ ap (λ (graph : Graph). graph.nr) c.format.ensures.graph) c.in_ok-audit.ensures.told
     (eqb-true c.in_ok-audit.report.total 0 (sym c.if-not-is_empty.ensures))
 
-pub returns-in-Ok-whole_report-clause-report : goal.returns-in-Ok-whole_report-clause-report
-returns-in-Ok-whole_report-clause-report g c =
+pub returns-clause-report : goal.returns-clause-report
+returns-clause-report g c =
     let seen = first_seen (g.M.WholeMemory.Watch.has_seen c.walk_and_settle.new.watch.first) (g.W.Watch.has_seen c.walk_and_settle.new.watch.second) _ _ _ c.format.ensures.graph c.in_ok-audit.ensures.seen in
     whole_second _ _ _ _ _ c.in_ok-audit.report c.in_ok-audit.audit c.requires.first c.requires.sound c.format.ensures.graph c.in_ok-audit.ensures.report
     (eqb-true c.in_ok-audit.report.total 0 (sym c.if-not-is_empty.ensures)) (g.met.M.Format.Format.lawful c.format.result) c.in_ok-audit.ensures.number
     c.settled_audits_are_known.ensures c.in_ok-audit.ensures.settled
-    _ c.in-Ok-whole_report.found c.in_ok-audit.ensures.kept.held (shown _ _ _ _ _ c.in_ok-audit.ensures.kept.held seen c.in-Ok-whole_report.ensures.report)
+    _ c.in_ok-found.found c.in_ok-audit.ensures.kept.held (shown _ _ _ _ _ c.in_ok-audit.ensures.kept.held seen c.in_ok-found.ensures.report)
 
-pub returns-in-Ok-whole_report-clause-reads : goal.returns-in-Ok-whole_report-clause-reads
-returns-in-Ok-whole_report-clause-reads g c =
+pub returns-clause-reads : goal.returns-clause-reads
+returns-clause-reads g c =
     whole_reads _ _ _ _ _ c.in_ok-audit.report c.in_ok-audit.audit c.requires.first c.requires.sound c.format.ensures.graph c.in_ok-audit.ensures.report
     (eqb-true c.in_ok-audit.report.total 0 (sym c.if-not-is_empty.ensures)) (g.met.M.Format.Format.lawful c.format.result) c.in_ok-audit.ensures.number
     c.settled_audits_are_known.ensures c.in_ok-audit.ensures.settled
     _ _ _ _ c.in_ok-audit.ensures.kept.held c.in_ok-audit.ensures.reads c.whole_report.ensures.reads
 
-pub returns-in-Ok-whole_report-clause-whole : goal.returns-in-Ok-whole_report-clause-whole
-returns-in-Ok-whole_report-clause-whole g c =
+pub returns-clause-whole : goal.returns-clause-whole
+returns-clause-whole g c =
     let seen = first_seen (g.M.WholeMemory.Watch.has_seen c.walk_and_settle.new.watch.first) (g.W.Watch.has_seen c.walk_and_settle.new.watch.second) _ _ _ c.format.ensures.graph c.in_ok-audit.ensures.seen in
     let none = eqb-true c.in_ok-audit.report.total 0 (sym c.if-not-is_empty.ensures) in
     let told = whole_second _ _ _ _ _ c.in_ok-audit.report c.in_ok-audit.audit c.requires.first c.requires.sound c.format.ensures.graph c.in_ok-audit.ensures.report none
     (g.met.M.Format.Format.lawful c.format.result) c.in_ok-audit.ensures.number c.settled_audits_are_known.ensures c.in_ok-audit.ensures.settled
-    _ c.in-Ok-whole_report.found c.in_ok-audit.ensures.kept.held (shown _ _ _ _ _ c.in_ok-audit.ensures.kept.held seen c.in-Ok-whole_report.ensures.report) in
-    whole_known _ _ g.M.Metadata.kind c.args.first.now.0 c.in_ok-audit.audit c.whole_report.new.audit c.in-Ok-whole_report.found c.in_ok-audit.ensures.kept.held
+    _ c.in_ok-found.found c.in_ok-audit.ensures.kept.held (shown _ _ _ _ _ c.in_ok-audit.ensures.kept.held seen c.in_ok-found.ensures.report) in
+    whole_known _ _ g.M.Metadata.kind c.args.first.now.0 c.in_ok-audit.audit c.whole_report.new.audit c.in_ok-found.found c.in_ok-audit.ensures.kept.held
     (in_order _ _ _ _ _ c.in_ok-audit.report c.in_ok-audit.audit c.requires.first c.requires.sound c.format.ensures.graph c.in_ok-audit.ensures.report none
     (g.met.M.Format.Format.lawful c.format.result) c.in_ok-audit.ensures.number c.settled_audits_are_known.ensures c.in_ok-audit.ensures.settled)
     (c.in_ok-audit.ensures.number ∙ ap (λ (graph : Graph). graph.nr) c.format.ensures.graph)
     (is_settled _ _ _ _ _ c.in_ok-audit.report c.in_ok-audit.audit c.requires.first c.requires.sound c.format.ensures.graph c.in_ok-audit.ensures.report none
     (g.met.M.Format.Format.lawful c.format.result) c.in_ok-audit.ensures.number c.settled_audits_are_known.ensures c.in_ok-audit.ensures.settled)
-    (shown _ _ _ _ _ c.in_ok-audit.ensures.kept.held seen c.in-Ok-whole_report.ensures.known) told c.in-Ok-whole_report.ensures.told c.in-Ok-whole_report.ensures.number
+    (shown _ _ _ _ _ c.in_ok-audit.ensures.kept.held seen c.in_ok-found.ensures.known) told c.in_ok-found.ensures.told c.in_ok-found.ensures.number
 
-pub returns-in-Err-whole_report-clause-reads : goal.returns-in-Err-whole_report-clause-reads
-returns-in-Err-whole_report-clause-reads g c =
+pub returns-in_err-found-clause-reads : goal.returns-in_err-found-clause-reads
+returns-in_err-found-clause-reads g c =
     whole_reads _ _ _ _ _ c.in_ok-audit.report c.in_ok-audit.audit c.requires.first c.requires.sound c.format.ensures.graph c.in_ok-audit.ensures.report
     (eqb-true c.in_ok-audit.report.total 0 (sym c.if-not-is_empty.ensures)) (g.met.M.Format.Format.lawful c.format.result) c.in_ok-audit.ensures.number
     c.settled_audits_are_known.ensures c.in_ok-audit.ensures.settled

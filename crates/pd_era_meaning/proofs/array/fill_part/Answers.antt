@@ -33,13 +33,13 @@ loop-i-preserved g c =
           (λ image parts taken.
           let all = array_words image c.args.words.now in
           let item = word_at i c.in_ok-word.word all (array_words image c.loop-i.words) (array_words image c.take_word.new.words) parts.1 taken in
-          ◌∙◌ {A = List ℕ} c.in_ok-add_era.ensures.added (one_more i c.in_ok-word.word all c.loop-i.part.items parts.0 item))
+          ◌∙◌ {A = List ℕ} c.in_ok-push.ensures.items (one_more i c.in_ok-word.word all c.loop-i.part.items parts.0 item))
           both c.in_ok-word.ensures.taken;
       left =
           if_then held (g.D.Device.state c.loop-i.dev).held _ _ _ c.loop-i.invariant.kept.held
           (λ image left taken. taken_next i c.in_ok-word.word (array_words image c.args.words.now) (array_words image c.loop-i.words) (array_words image c.take_word.new.words) left taken)
           c.loop-i.invariant.left c.in_ok-word.ensures.taken;
-      number = omega (arith, ap (length {A = ℕ}) c.in_ok-add_era.ensures.added, length-append c.loop-i.part.items (c.in_ok-word.word ∷ []), c.loop-i.invariant.number);
+      number = omega (arith, ap (length {A = ℕ}) c.in_ok-push.ensures.items, length-append c.loop-i.part.items (c.in_ok-word.word ∷ []), c.loop-i.invariant.number);
       size = c.take_word.ensures.same_size ∙ c.loop-i.invariant.size;
       kept = search rules;
       faults = c.in_ok-word.ensures.faults ∙ c.loop-i.invariant.faults;

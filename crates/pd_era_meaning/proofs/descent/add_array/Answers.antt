@@ -17,12 +17,12 @@ pub returns-clause-goes : goal.returns-clause-goes
 returns-clause-goes c = λ image is knows.
     let walk = c.args.walk.now in
     let block = c.args.block.now.0 in
-    let mid : Walk = record walk { rows = c.add_row.new.rows } in
+    let mid : Walk = record walk { rows = c.push.new.self } in
     let number = length-words 8 block 0 in
     let words : c.array_len.result ≡ length (words_from 8 (block_at image c.args.b) 0) =
     let same : word_count 8 block ≡ word_count 8 block - 0 = omega arith in
     c.array_len.ensures ∙ (same ∙ (sym number ∙ ap (λ (bytes : List ℕ). length (words_from 8 bytes 0)) (sym is))) in
     let next = c.args.at + c.array_len.result in
     goes_noted image 0 c.args.b c.args.at next c.args.end walk mid c.note.new.self
-    (goes_row image c.args.b c.args.at c.args.end next _ walk mid refl refl refl c.in_ok-add_row.ensures.added (ap (λ (n : ℕ). c.args.at + n) words) knows)
+    (goes_row image c.args.b c.args.at c.args.end next _ walk mid refl refl refl c.in_ok-push.ensures.items (ap (λ (n : ℕ). c.args.at + n) words) knows)
     c.note.ensures.era c.note.ensures.rows c.note.ensures.noted

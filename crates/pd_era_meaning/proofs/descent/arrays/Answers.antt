@@ -9,7 +9,7 @@ use Rattle.pd_era_meaning.proofs.descent.arrays.Goals as goal
 pub loop-i-preserved : goal.loop-i-preserved
 loop-i-preserved c =
     let block = c.args.block.now.0 in
-    c.in_ok-add_block.ensures.added
+    c.in_ok-push.ensures.items
     ∙ (ap (λ (xs : List ℕ). xs ++ c.value-root.result.0 ∷ []) c.loop-i.invariant
     ∙ (ap (λ (root : Root). map (value_at 8 block) (range_with_len 0 c.loop-i.i) ++ root.0 ∷ []) c.value-root.ensures.value
     ∙ sym (map-range_with_len_more (value_at 8 block) 0 c.loop-i.i c.loop-i.i (omega arith))))

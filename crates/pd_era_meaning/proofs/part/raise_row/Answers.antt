@@ -33,9 +33,9 @@ returns-then-row-blocks-clause-raised g c =
     raises_none row.era (λ i. row_holds image row (64 * c.args.base + i)) c.args.part.now
     (λ i within. ap (λ (words : List ℕ). holds_from row.end row.first words (64 * c.args.base + i)) (words_outside Eight image row.block outside) ∙ from_nothing row.end row.first (64 * c.args.base + i)))
 
-pub returns-in-Ok-clause-raised : goal.returns-in-Ok-clause-raised
-returns-in-Ok-clause-raised g c =
+pub returns-clause-raised : goal.returns-clause-raised
+returns-clause-raised g c =
     let row = c.args.row.now in
-    IfSome_then (g.D.Device.state c.args.dev.now).held c.in-Ok.ensures.content (λ image content.
+    IfSome_then (g.D.Device.state c.args.dev.now).held c.in_ok-read.ensures.content (λ image content.
     subst (λ (block : List ℕ). Raises row.era (λ i. holds_from row.end row.first (words_from 8 block 0) (64 * c.args.base + i)) c.args.part.now c.raise_by.new.part) (sym (block_found image row.block c.read.new.into.0 content))
     c.raise_by.ensures.raised)

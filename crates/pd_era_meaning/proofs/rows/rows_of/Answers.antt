@@ -17,6 +17,6 @@ returns-clause-rows g c =
     (λ image. Knows image walk → HasSets image s.blocks c.add_current.new.sets.items walk.rows.items last.rows.items)
     _ c.in_ok-sets.ensures.kept.held
     (λ image archived has.
-    has_rows image s c.in_ok-sets.sets.items c.add_current.new.sets.items walk.rows.items last.rows.items c.add_current.ensures.era archived c.in_ok-add_current.ensures.added c.in_ok-walk.ensures.nothing.rows
-    (has (knows_nothing image walk c.in_ok-walk.ensures.nothing.notes)))
+    has_rows image s c.in_ok-sets.sets.items c.add_current.new.sets.items walk.rows.items last.rows.items c.add_current.ensures.era archived c.in_ok-add_current.ensures.added c.in_ok-walk.ensures.rows
+    (has (knows_nothing image walk c.in_ok-walk.ensures.notes)))
     c.in_ok-sets.ensures.sets c.in_ok-add_from_last.ensures.sets

@@ -6,8 +6,8 @@ use Rattle.pd_kept.proofs.NumberLemmas.{ReadsNumbers}
 use Rattle.pd_kept.proofs.stored.read_stored.Given as goal
 
 -- the numbers that were read and those that are left are all
-abbrev pub invariant-loop-id : goal.invariant-loop-id
-invariant-loop-id g l = record {
+abbrev pub invariant-loop-stored : goal.invariant-loop-stored
+invariant-loop-stored g l = record {
   ascend : (rest : List (ℕ × ℕ)) → AreStored (saved_least l.entries) rest → AreStored 0 (map pair_of l.stored.items ++ rest);
   told : IfSome (g.D.Device.state l.initial.dev).held (λ image. ReadsNumbers l.s image l.stored.items l.entries);
   room : saved_room l.entries ≡ l.s.meta_map.blocks;
@@ -15,5 +15,5 @@ invariant-loop-id g l = record {
   faults : (g.D.Device.state l.dev).faults ≡ (g.D.Device.state l.initial.dev).faults;
 }
 
-abbrev pub decreases-loop-id : goal.decreases-loop-id
-decreases-loop-id g l = saved_number 24 l.entries
+abbrev pub decreases-loop-stored : goal.decreases-loop-stored
+decreases-loop-stored g l = saved_number 24 l.entries

@@ -1,6 +1,6 @@
 use Rattle.std.proofs.Common.{◌≡◌, ◌+◌, ◌≤◌, IfSome}
 use Rattle.pd_image.specs.Device.{OnlyReads}
-use Rattle.pd_tree.specs.Cursor.{cursor_items, cursor_number, cursor_room}
+use Rattle.pd_tree.specs.Cursor.{cursor_items, cursor_number}
 use Rattle.pd_tree.specs.Items.{root_of}
 use Rattle.pd_measures.specs.Gauge.{below_root}
 use Rattle.pd_measures.specs.Lists.{are_one, details_of, lists_reads}
@@ -14,8 +14,6 @@ invariant-entries g l = record {
       ≡ are_one (below_root l.fn.notes) (cursor_items 8 root_of image l.cursors.tops) (cursor_items 24 details_of image l.cursors.details));
   reads : IfSome (g.D.Device.state l.initial.dev).held (λ image.
       (g.D.Device.state l.dev).reads + lists_reads image l.cursors ≤ (g.D.Device.state l.initial.dev).reads + lists_reads image l.initial.cursors);
-  tops : cursor_room l.cursors.tops ≤ cursor_room l.initial.cursors.tops;
-  details : cursor_room l.cursors.details ≤ cursor_room l.initial.cursors.details;
   kept : OnlyReads (g.D.Device.state l.initial.dev) (g.D.Device.state l.dev);
   faults : (g.D.Device.state l.dev).faults ≡ (g.D.Device.state l.initial.dev).faults;
 }

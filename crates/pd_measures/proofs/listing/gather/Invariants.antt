@@ -1,6 +1,6 @@
-use Rattle.std.proofs.Common.{◌≡◌, ◌≤◌, ◌++◌, map, IfSome}
+use Rattle.std.proofs.Common.{◌≡◌, ◌++◌, map, IfSome}
 use Rattle.pd_image.specs.Device.{OnlyReads}
-use Rattle.pd_tree.specs.Cursor.{cursor_items, cursor_number, cursor_room}
+use Rattle.pd_tree.specs.Cursor.{cursor_items, cursor_number}
 use Rattle.pd_measures.specs.Lists.{key_and_told}
 use Rattle.pd_measures.proofs.listing.gather.Given as goal
 
@@ -10,7 +10,6 @@ invariant-entries g l = record {
   list : IfSome (g.D.Device.state l.initial.dev).held (λ image.
       l.list.items ++ map (key_and_told (g.V.TellsMappings.told l.fn.notes)) (cursor_items g.V.Value.SIZE g.V.Value.decoded image l.entries)
       ≡ map (key_and_told (g.V.TellsMappings.told l.fn.notes)) (cursor_items g.V.Value.SIZE g.V.Value.decoded image l.initial.entries));
-  room : cursor_room l.entries ≤ cursor_room l.initial.entries;
   kept : OnlyReads (g.D.Device.state l.initial.dev) (g.D.Device.state l.dev);
   faults : (g.D.Device.state l.dev).faults ≡ (g.D.Device.state l.initial.dev).faults;
 }

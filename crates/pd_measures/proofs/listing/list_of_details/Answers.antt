@@ -1,4 +1,4 @@
-use Rattle.std.proofs.Common.{◌≡◌, ℕ, List, map, ◌∙◌, ap, arith}
+use Rattle.std.proofs.Common.{◌≡◌, map, ◌∙◌, ap, arith}
 use Rattle.pd_kinds.specs.Whole.{details_entries}
 use Rattle.pd_laid.specs.FoundRoots.{lost_graph}
 use Rattle.pd_value.specs.declared.thin.Details.{Details}

@@ -1,10 +1,7 @@
-use Rattle.std.proofs.Common.{◌≤◌}
 use Rattle.pd_image.specs.Device.{IsAttached}
-use Rattle.pd_tree.specs.Cursor.{cursor_room}
 use Rattle.pd_part_tests.proofs.built.has_numbers.Given as goal
 
 abbrev pub invariant-loop-i : goal.invariant-loop-i
 invariant-loop-i g l = record {
   attached : IsAttached (g.D.Device.state l.dev);
-  within : cursor_room l.cursor ≤ (g.D.Device.state l.dev).blocks;
 }

@@ -1,11 +1,8 @@
-use Rattle.std.proofs.Common.{◌≤◌}
 use Rattle.pd_image.specs.Device.{IsAttached}
 use Rattle.pd_image.specs.MemDevice.{mem_device_state}
-use Rattle.pd_tree.specs.ArrayCursor.{array_room}
 use Rattle.pd_part_tests.proofs.tree_tests.expect_sevens.Given as goal
 
 abbrev pub invariant-loop : goal.invariant-loop
 invariant-loop g l = record {
   attached : IsAttached (mem_device_state l.device);
-  within : array_room l.cursor ≤ (mem_device_state l.device).blocks;
 }

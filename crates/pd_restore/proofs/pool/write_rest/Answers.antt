@@ -8,20 +8,20 @@ use Rattle.pd_restore.proofs.PoolLemmas.{fields_are, head_is, super_is, behind_i
 use Rattle.pd_restore.proofs.ReadingLemmas.{build_is}
 use Rattle.pd_restore.proofs.pool.write_rest.Goals as goal
 
-pub returns-in-Ok-clause-writes : goal.returns-in-Ok-clause-writes
-returns-in-Ok-clause-writes g c first lines later left start front all =
+pub returns-clause-writes : goal.returns-clause-writes
+returns-clause-writes g c first lines later left start front all =
     let room = c.args.room in
-    let w = c.in-Ok.ensures.writes lines start all in
+    let w = c.in_ok-parts.ensures.writes lines start all in
     let head = head_is first (head_of_pool c.args.pool.now) later lines w.shape w.means front in
     record {
       meaning = w.shape;
       lawful = w.lawful;
       fits = w.fits;
       super_is = c.write_thin_super.ensures.block
-          ∙ (ap thin_super_block (c.super_of.ensures ∙ fields_are c.args.pool.now c.in-Ok.parts room w.shape head w.named) ∙ sym (super_is w.shape room));
+          ∙ (ap thin_super_block (c.super_of.ensures ∙ fields_are c.args.pool.now c.in_ok-parts.parts room w.shape head w.named) ∙ sym (super_is w.shape room));
       wrote = rw (behind_is w.shape room) w.wrote;
       told = λ t is. accepted_whole pool_format pool_need_so_far MeansPoolShape whole_bytes t lines room w.shape left w.means all.above is;
     }
 
-pub returns-in-Err-clause-build : goal.returns-in-Err-clause-build
-returns-in-Err-clause-build g c = rw c.of_build.ensures (build_is c.in-Err.fault)
+pub returns-in_err-parts-clause-build : goal.returns-in_err-parts-clause-build
+returns-in_err-parts-clause-build g c = build_is c.from_residual.result _ c.from_residual.ensures.1

@@ -24,7 +24,7 @@ take_all-requires-clause-made g c =
     record {
       before = made_begun shared p;
       start = a;
-      so_far = made_coming g.G.Gathering.HasGathered shared p c.args.room coming c.in-Ok.gathered a c.requires.made (c.in-Ok.ensures (head_of_pool p) a refl c.requires.made.place c.requires.closed);
+      so_far = made_coming g.G.Gathering.HasGathered shared p c.args.room coming c.in_ok-gathered.gathered a c.requires.made (c.in_ok-gathered.ensures (head_of_pool p) a refl c.requires.made.place c.requires.closed);
     }
 
 pub returns-in_err-take_all-clause-says : goal.returns-in_err-take_all-clause-says
@@ -33,7 +33,7 @@ returns-in_err-take_all-clause-says g c left t is =
     let p = c.args.pool.now in
     let shared = g.G.Gathering.shared in
     let coming = g.L.Giving.coming c.args.lines.now in
-    let have = made_coming g.G.Gathering.HasGathered shared p c.args.room coming c.in-Ok.gathered a c.requires.made (c.in-Ok.ensures (head_of_pool p) a refl c.requires.made.place c.requires.closed) in
+    let have = made_coming g.G.Gathering.HasGathered shared p c.args.room coming c.in_ok-gathered.gathered a c.requires.made (c.in_ok-gathered.ensures (head_of_pool p) a refl c.requires.made.place c.requires.closed) in
     let says = c.in_err-take_all.ensures.says (made_begun shared p) a have left t is in
     search rules
 
@@ -43,7 +43,7 @@ write_rest-requires-clause-whole g c =
     let p = c.args.pool.now in
     let shared = g.G.Gathering.shared in
     let coming = g.L.Giving.coming c.args.lines.now in
-    let have = made_coming g.G.Gathering.HasGathered shared p c.args.room coming c.in-Ok.gathered a c.requires.made (c.in-Ok.ensures (head_of_pool p) a refl c.requires.made.place c.requires.closed) in
+    let have = made_coming g.G.Gathering.HasGathered shared p c.args.room coming c.in_ok-gathered.gathered a c.requires.made (c.in_ok-gathered.ensures (head_of_pool p) a refl c.requires.made.place c.requires.closed) in
     let e = c.in_ok-take_all.ensures.all (made_begun shared p) a have None in
     record { lines = e.lines; start = a; all = e.all }
 
@@ -53,7 +53,7 @@ returns-clause-writes g c left =
     let p = c.args.pool.now in
     let shared = g.G.Gathering.shared in
     let coming = g.L.Giving.coming c.args.lines.now in
-    let have = made_coming g.G.Gathering.HasGathered shared p c.args.room coming c.in-Ok.gathered a c.requires.made (c.in-Ok.ensures (head_of_pool p) a refl c.requires.made.place c.requires.closed) in
+    let have = made_coming g.G.Gathering.HasGathered shared p c.args.room coming c.in_ok-gathered.gathered a c.requires.made (c.in_ok-gathered.ensures (head_of_pool p) a refl c.requires.made.place c.requires.closed) in
     let e = c.in_ok-take_all.ensures.all (made_begun shared p) a have left in
     writes_of e.lines c.args.room left a (draft_state c.write_rest.new.draft) (IsTextOf (made_begun shared p) coming left) e.told c.write_rest.result
     (c.write_rest.ensures.writes (version_line shared) e.lines e.later left a e.front e.all)

@@ -6,14 +6,14 @@ use Rattle.pd_restore.proofs.ReadingLemmas.{no_room_asked, over_if_short}
 use Rattle.pd_restore.proofs.SharedLemmas.{on_ok, leaf_exact, leaf_follows}
 use Rattle.pd_restore.proofs.shared_lines.put_leaf.Goals as goal
 
-pub returns-in-Ok-clause-gathered : goal.returns-in-Ok-clause-gathered
-returns-in-Ok-clause-gathered g c before start l f = on_ok c.look.result (c.in-Ok.ensures.gathered c.args.room before start l f.so_far.gathered (leaf_follows c.args.room before l f))
+pub returns-clause-gathered : goal.returns-clause-gathered
+returns-clause-gathered g c before start l f = on_ok c.look.result (c.in_ok-add_leaf.ensures.gathered c.args.room before start l f.so_far.gathered (leaf_follows c.args.room before l f))
 
-pub returns-in-Ok-clause-need : goal.returns-in-Ok-clause-need
-returns-in-Ok-clause-need g c before start l f =
+pub returns-clause-need : goal.returns-clause-need
+returns-clause-need g c before start l f =
     let lines = leaf_line l ∷ before in
     over_if_short c.args.room (min (shape_need_so_far c.args.room lines) (2 ^ 64 - 1)) _ c.look.result (leaf_exact c.args.room before l f)
-    (c.look.ensures.need lines start (draft_state c.add_leaf.new.draft) (c.in-Ok.ensures.gathered c.args.room before start l f.so_far.gathered (leaf_follows c.args.room before l f)))
+    (c.look.ensures.need lines start (draft_state c.add_leaf.new.draft) (c.in_ok-add_leaf.ensures.gathered c.args.room before start l f.so_far.gathered (leaf_follows c.args.room before l f)))
 
-pub returns-in-Err-clause-need : goal.returns-in-Err-clause-need
-returns-in-Err-clause-need g c before start l f = rw c.of_build.ensures (no_room_asked c.in-Err.fault c.args.room _)
+pub returns-in_err-add_leaf-clause-need : goal.returns-in_err-add_leaf-clause-need
+returns-in_err-add_leaf-clause-need g c before start l f = no_room_asked _ c.from_residual.result _ c.args.room _ c.from_residual.ensures.1

@@ -29,13 +29,13 @@ returns-in_err-within-clause-need c before start now f =
     let is = c.need_with-needed.ensures before start now f.so_far.gathered (run_follows c.args.room before (run_of c.args.run) f) ∙ run_exact c.args.room before (run_of c.args.run) f in
     let over = over_if_short {T = Unit {0}} c.args.room _ _ c.within.result is c.within.ensures.need in search rules
 
-pub returns-in-Ok-clause-gathered : goal.returns-in-Ok-clause-gathered
-returns-in-Ok-clause-gathered c before start now f =
+pub returns-clause-gathered : goal.returns-clause-gathered
+returns-clause-gathered c before start now f =
     let follows = run_follows c.args.room before (run_of c.args.run) f in
     let is = c.need_with-needed.ensures before start now f.so_far.gathered follows in
-    c.in-Ok.ensures.gathered c.args.room before start now f.so_far.gathered follows (run_fits c.args.room before (run_of c.args.run) c.need_with-needed.result f is (omega (arith, c.in_ok-within.ensures.need)))
+    c.in_ok-add_run.ensures.gathered c.args.room before start now f.so_far.gathered follows (run_fits c.args.room before (run_of c.args.run) c.need_with-needed.result f is (omega (arith, c.in_ok-within.ensures.need)))
 
-pub returns-in-Ok-clause-need : goal.returns-in-Ok-clause-need
-returns-in-Ok-clause-need c before start now f =
+pub returns-clause-need : goal.returns-clause-need
+returns-clause-need c before start now f =
     let is = c.need_with-needed.ensures before start now f.so_far.gathered (run_follows c.args.room before (run_of c.args.run) f) ∙ run_exact c.args.room before (run_of c.args.run) f in
     omega (arith, is, c.in_ok-within.ensures.need)

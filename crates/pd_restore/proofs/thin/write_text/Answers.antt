@@ -15,18 +15,18 @@ write_pool-requires-clause-reading g c =
     let b = c.requires.begun in
     record {
       start = a;
-      reads = begun_text g.G.Gathering.HasGathered g.G.Gathering.shared c.args.pool.now c.args.room c.args.text.now c.in-Ok.gathered a b (c.in-Ok.ensures (head_of_pool c.args.pool.now) a refl b.place c.requires.closed);
+      reads = begun_text g.G.Gathering.HasGathered g.G.Gathering.shared c.args.pool.now c.args.room c.args.text.now c.in_ok-gathered.gathered a b (c.in_ok-gathered.ensures (head_of_pool c.args.pool.now) a refl b.place c.requires.closed);
     }
 
 pub returns-clause-writes : goal.returns-clause-writes
 returns-clause-writes g c =
     let p = c.requires.begun in
     c.write_pool.ensures.writes (draft_state c.args.draft.now)
-    (begun_text g.G.Gathering.HasGathered g.G.Gathering.shared c.args.pool.now c.args.room c.args.text.now c.in-Ok.gathered _ p (c.in-Ok.ensures (head_of_pool c.args.pool.now) _ refl p.place c.requires.closed))
+    (begun_text g.G.Gathering.HasGathered g.G.Gathering.shared c.args.pool.now c.args.room c.args.text.now c.in_ok-gathered.gathered _ p (c.in_ok-gathered.ensures (head_of_pool c.args.pool.now) _ refl p.place c.requires.closed))
 
 pub returns-clause-says : goal.returns-clause-says
 returns-clause-says g c t leaves =
     let p = c.requires.begun in
     c.write_pool.ensures.says (draft_state c.args.draft.now)
-    (begun_text g.G.Gathering.HasGathered g.G.Gathering.shared c.args.pool.now c.args.room c.args.text.now c.in-Ok.gathered _ p (c.in-Ok.ensures (head_of_pool c.args.pool.now) _ refl p.place c.requires.closed))
+    (begun_text g.G.Gathering.HasGathered g.G.Gathering.shared c.args.pool.now c.args.room c.args.text.now c.in_ok-gathered.gathered _ p (c.in_ok-gathered.ensures (head_of_pool c.args.pool.now) _ refl p.place c.requires.closed))
     t leaves

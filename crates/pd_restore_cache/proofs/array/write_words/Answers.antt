@@ -13,13 +13,13 @@ loop-i-init g c =
     let all = words_of c.args.words c.args.rows.now c.args.count in
     let count : length all ≡ c.args.count = length-words c.args.words c.args.rows.now c.args.count in
     let none : 0 ≡ span c.args.words * 0 = omega arith in
-    let n = c.in-Ok.ensures in
+    let n = c.in_ok-builder.ensures in
     let is = c.size.ensures in
     let place = c.args.draft.now.next in
     record {
       same_reference = refl;
       stands = subst (λ (block : ℕ). StandsAt c.args.rows.now 0 block) none (stands_first c.args.rows.now c.requires.rows);
-      filling = filling_start all c.in-Ok.builder c.requires.closed (n.size ∙ is) (rw is at (n.blocks place all count)) (rw is at (n.root place all count))
+      filling = filling_start all c.in_ok-builder.builder c.requires.closed (n.size ∙ is) (rw is at (n.blocks place all count)) (rw is at (n.root place all count))
           (n.left ∙ sym count) (rw is at n.number ∙ ap (need_array (bytes_of c.args.words)) (sym count)) n.made;
     }
 

@@ -1,4 +1,5 @@
 use Rattle.std.proofs.Common.{arith}
+use Rattle.std.proofs.lemmas.Result.{err_from_is_err_and}
 use Rattle.pd_spells.specs.CacheText.{first_line, cache_single}
 use Rattle.pd_cache_texts.specs.CacheLine.{cache_meant}
 use Rattle.pd_cache_texts.specs.CacheState.{CacheStands}
@@ -10,43 +11,45 @@ use Rattle.pd_restore_cache.proofs.lines.step.Goals as goal
 pub take-requires : goal.take-requires
 take-requires g c =
     let h = c.requires.reads in
-    let n = c.in-Ok-Some in
+    let n = c.in_ok-line in
     let lines = lines_of c.args.gathered.now in
-    let reads = line_given cache_single CacheStands first_line cache_meant n.field-0 n.line lines c.next.new.self n.field-0-is (omega (arith, two_lines c.args.gathered.now)) (n.ensures.lines lines h.reads) in
+    let reads = line_given cache_single CacheStands first_line cache_meant n.field-0 c.in-Some.line lines c.next.new.self c.in-Some.is (omega (arith, two_lines c.args.gathered.now)) (n.ensures.lines lines h.reads) in
     record { after = reads.so_far.lines.0 }
 
-pub returns-in-Ok-Some-clause-steps : goal.returns-in-Ok-Some-clause-steps
-returns-in-Ok-Some-clause-steps g c =
+pub returns-in-Some-clause-steps : goal.returns-in-Some-clause-steps
+returns-in-Some-clause-steps g c =
     let h = c.requires.reads in
-    let n = c.in-Ok-Some in
+    let n = c.in_ok-line in
     let lines = lines_of c.args.gathered.now in
     let was = (g.S.Source.state c.args.source.now).left in
     let left = (g.S.Source.state c.next.new.source).left in
-    let reads = line_given cache_single CacheStands first_line cache_meant n.field-0 n.line lines c.next.new.self n.field-0-is (omega (arith, two_lines c.args.gathered.now)) (n.ensures.lines lines h.reads) in
-    stepped c.take.result n.line c.args.text.now c.next.new.self was left c.args.gathered.now c.take.new.gathered h reads
-    (λ t leaves. line_told cache_single CacheStands first_line cache_meant n.field-0 n.line t lines c.next.new.self left n.field-0-is (omega (arith, two_lines c.args.gathered.now))
+    let reads = line_given cache_single CacheStands first_line cache_meant n.field-0 c.in-Some.line lines c.next.new.self c.in-Some.is (omega (arith, two_lines c.args.gathered.now)) (n.ensures.lines lines h.reads) in
+    stepped c.take.result c.in-Some.line c.args.text.now c.next.new.self was left c.args.gathered.now c.take.new.gathered h reads
+    (λ t leaves. line_told cache_single CacheStands first_line cache_meant n.field-0 c.in-Some.line t lines c.next.new.self left c.in-Some.is (omega (arith, two_lines c.args.gathered.now))
     (n.ensures.text t lines h.reads leaves))
     c.take.ensures.cache c.take.ensures.more c.take.ensures.takes
 
-pub returns-in-Ok-None-clause-steps : goal.returns-in-Ok-None-clause-steps
-returns-in-Ok-None-clause-steps g c =
+pub returns-in-None-clause-steps : goal.returns-in-None-clause-steps
+returns-in-None-clause-steps g c =
     let h = c.requires.reads in
-    let n = c.in-Ok-None in
+    let n = c.in_ok-line in
     let lines = lines_of c.args.gathered.now in
     let was = (g.S.Source.state c.args.source.now).left in
     let left = (g.S.Source.state c.next.new.source).left in
     record {
-      lines = end_given cache_single CacheStands first_line cache_meant n.field-0 lines c.next.new.self n.field-0-is (omega (arith, two_lines c.args.gathered.now)) (n.ensures.lines lines h.reads);
-      told = λ t leaves. end_told cache_single CacheStands first_line cache_meant n.field-0 t lines c.next.new.self left n.field-0-is (omega (arith, two_lines c.args.gathered.now))
+      lines = end_given cache_single CacheStands first_line cache_meant n.field-0 lines c.next.new.self c.in-None.is (omega (arith, two_lines c.args.gathered.now)) (n.ensures.lines lines h.reads);
+      told = λ t leaves. end_told cache_single CacheStands first_line cache_meant n.field-0 t lines c.next.new.self left c.in-None.is (omega (arith, two_lines c.args.gathered.now))
           (n.ensures.text t lines h.reads leaves);
     }
 
-pub returns-in-Err-clause-says : goal.returns-in-Err-clause-says
-returns-in-Err-clause-says g c t leaves =
+pub returns-in_err-line-clause-says : goal.returns-in_err-line-clause-says
+returns-in_err-line-clause-says g c t leaves =
     let h = c.requires.reads in
-    rw c.of_read.ensures (next_says c.in-Err.fault t c.args.gathered.now (c.in-Err.ensures.text t (lines_of c.args.gathered.now) h.reads leaves))
+    let p = err_from_is_err_and c.from_residual.result c.from_residual.ensures.1 in
+    rw (p.1, p.2) (next_says c.in_err-line.field-0.0 t c.args.gathered.now (c.in_err-line.ensures.text t (lines_of c.args.gathered.now) h.reads leaves))
 
-pub returns-in-Err-clause-later : goal.returns-in-Err-clause-later
-returns-in-Err-clause-later g c =
+pub returns-in_err-line-clause-later : goal.returns-in_err-line-clause-later
+returns-in_err-line-clause-later g c =
     let now = c.args.gathered.now in
-    rw c.of_read.ensures (later_read cache_single CacheStands (lines_of now) c.args.text.now c.in-Err.fault c.requires.reads.reads (two_lines now) c.in-Err.ensures.past)
+    let p = err_from_is_err_and c.from_residual.result c.from_residual.ensures.1 in
+    rw (p.1, p.2) (later_read cache_single CacheStands (lines_of now) c.args.text.now c.in_err-line.field-0.0 c.requires.reads.reads (two_lines now) c.in_err-line.ensures.past)

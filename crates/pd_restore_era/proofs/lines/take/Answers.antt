@@ -12,7 +12,7 @@ put_run-requires-clause-follow g c =
 pub returns-in-Era-clause-gathered : goal.returns-in-Era-clause-gathered
 returns-in-Era-clause-gathered g c before start h later after = absurd (era_after before c.args.line _ _ _ _ c.in-Era.is later after)
 
-pub returns-in-Ok-clause-gathered : goal.returns-in-Ok-clause-gathered
-returns-in-Ok-clause-gathered g c before start h later after =
+pub returns-in_ok-put_run-in-Run-clause-gathered : goal.returns-in_ok-put_run-in-Run-clause-gathered
+returns-in_ok-put_run-in-Run-clause-gathered g c before start h later after =
     let n = c.in-Run in
-    run_gathered before c.args.line n.first n.length n.era n.is h after (c.in-Ok.ensures.put (eras_in before) (blocks_of before) start h.put)
+    run_gathered before c.args.line n.first n.length n.era n.is h after (c.in_ok-put_run-in-Run.ensures.put (eras_in before) (blocks_of before) start h.put)

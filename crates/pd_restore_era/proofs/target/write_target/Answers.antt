@@ -1,4 +1,5 @@
 use Rattle.std.proofs.Common.{rules, ◌∙◌, ap, arith}
+use Rattle.std.proofs.lemmas.Result.{err_from_is_err_and}
 use Rattle.pd_kinds.specs.EraFormat.{era_super_block}
 use Rattle.pd_draft.specs.DraftState.{draft_state}
 use Rattle.pd_laid.specs.LaidEra.{laid_era}
@@ -16,20 +17,20 @@ use Rattle.pd_restore_era.proofs.target.write_target.Goals as goal
 
 pub restore_lines-requires-clause-reading : goal.restore_lines-requires-clause-reading
 restore_lines-requires-clause-reading g c =
-    let n = c.in-Ok.ensures in
+    let n = c.in_ok-array.ensures in
     let begun = target_reading c.args.target.now c.args.room c.args.text.now c.requires.reads c.requires.closed n.size n.left n.made n.blocks n.root n.number c.requires.place c.requires.need c.requires.there in
     record { before = begun_lines c.args.target.now; room = c.args.room; start = draft_state c.args.draft.now; so_far = begun }
 
 pub returns-in_err-restore_lines-clause-says : goal.returns-in_err-restore_lines-clause-says
 returns-in_err-restore_lines-clause-says g c t leaves =
-    let n = c.in-Ok.ensures in
+    let n = c.in_ok-array.ensures in
     let begun = target_reading c.args.target.now c.args.room c.args.text.now c.requires.reads c.requires.closed n.size n.left n.made n.blocks n.root n.number c.requires.place c.requires.need c.requires.there in
     let says = c.in_err-restore_lines.ensures.says (begun_lines c.args.target.now) c.args.room (draft_state c.args.draft.now) begun t leaves in
     search rules
 
 pub write_parts-requires-clause-room : goal.write_parts-requires-clause-room
 write_parts-requires-clause-room g c =
-    let n = c.in-Ok.ensures in
+    let n = c.in_ok-array.ensures in
     let begun = target_reading c.args.target.now c.args.room c.args.text.now c.requires.reads c.requires.closed n.size n.left n.made n.blocks n.root n.number c.requires.place c.requires.need c.requires.there in
     let e = c.in_ok-restore_lines.ensures.all (begun_lines c.args.target.now) c.args.room (draft_state c.args.draft.now) begun in
     let m = read_lines_mean era MeansEra FitsLine Placed era_language e.lines e.all.reads e.all.ended in
@@ -42,10 +43,10 @@ write_parts-requires-clause-room g c =
       there = e.all.there;
     }
 
-pub returns-in-Ok-write_parts-clause-writes : goal.returns-in-Ok-write_parts-clause-writes
+pub returns-clause-writes : goal.returns-clause-writes
 unfolding laid_era
-returns-in-Ok-write_parts-clause-writes g c =
-    let n = c.in-Ok.ensures in
+returns-clause-writes g c =
+    let n = c.in_ok-array.ensures in
     let begun = target_reading c.args.target.now c.args.room c.args.text.now c.requires.reads c.requires.closed n.size n.left n.made n.blocks n.root n.number c.requires.place c.requires.need c.requires.there in
     let e = c.in_ok-restore_lines.ensures.all (begun_lines c.args.target.now) c.args.room (draft_state c.args.draft.now) begun in
     let m = read_lines_mean era MeansEra FitsLine Placed era_language e.lines e.all.reads e.all.ended in
@@ -56,11 +57,13 @@ returns-in-Ok-write_parts-clause-writes g c =
       lawful = m.1.lawful;
       fits = number_fits m.0 c.args.room m.1.lawful.one_each (omega (arith, whole_need e.lines m.0 c.args.room m.1, e.all.need)) c.requires.most;
       super_is = c.write_era_super.ensures.block
-          ∙ ap era_super_block (c.super_of.ensures ∙ fields_are c.args.target.now c.in-Ok-write_parts.parts c.args.room m.0 head (c.in-Ok-write_parts.ensures.parts m.0 (draft_state c.args.draft.now) eras));
-      wrote = c.in-Ok-write_parts.ensures.wrote m.0 (draft_state c.args.draft.now) eras;
+          ∙ ap era_super_block (c.super_of.ensures ∙ fields_are c.args.target.now c.in_ok-parts.parts c.args.room m.0 head (c.in_ok-parts.ensures.parts m.0 (draft_state c.args.draft.now) eras));
+      wrote = c.in_ok-parts.ensures.wrote m.0 (draft_state c.args.draft.now) eras;
       told = λ t leaves. accepted_whole era era_need_so_far MeansEra (whole_bytes era (is_reader era FitsLine Placed era_grammar)) t e.lines c.args.room m.0
           (g.S.Source.state c.restore_lines.new.source).left m.1 e.all.above (e.told t leaves);
     }
 
-pub returns-in-Err-write_parts-clause-later : goal.returns-in-Err-write_parts-clause-later
-returns-in-Err-write_parts-clause-later g c = rw c.of_build.ensures (later_build c.in-Err-write_parts.fault)
+pub returns-in_err-parts-clause-later : goal.returns-in_err-parts-clause-later
+returns-in_err-parts-clause-later g c =
+    let p = err_from_is_err_and c.from_residual-in_err-parts.result c.from_residual-in_err-parts.ensures.1 in
+    rw (p.1, p.2) (later_build c.in_err-parts.field-0.0)

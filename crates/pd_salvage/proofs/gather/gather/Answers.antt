@@ -9,21 +9,21 @@ use Rattle.pd_salvage.specs.Gather.{to_come}
 use Rattle.pd_salvage.proofs.GatherLemmas.{all_gathered, comes_kept, comes_none, comes_skipped, skips_mapping, takes_mapping, time_below}
 use Rattle.pd_salvage.proofs.gather.gather.Goals as goal
 
-pub loop-virt-preserved-in-Ok : goal.loop-virt-preserved-in-Ok
-loop-virt-preserved-in-Ok g c =
+pub loop-virt-preserved-in-Continue-branch-3 : goal.loop-virt-preserved-in-Continue-branch-3
+loop-virt-preserved-in-Continue-branch-3 g c =
     let now = c.loop-virt.mappings in
     let later = c.next_known.new.self in
     let blocks = c.args.blocks in
-    let virt = c.in-Ok-Some.virt in
-    let value = c.in-Ok-Some.mapping in
+    let virt = c.in-Some.virt in
+    let value = c.in-Some.mapping in
     let gathers = c.loop-virt.invariant.gathers in
-    let ascends = rw c.in-Ok-Some.field-0-is at c.in-Ok-Some.ensures.ascends in
+    let ascends = rw c.in-Some.is at c.in_ok-virt.ensures.ascends in
     let kept = c.loop-virt.invariant.kept in
-    let reads = c.in-Ok-Some.ensures.kept in
-    let taken = c.in-Ok.ensures.takes c.args.runs.now gathers.ms gathers.gathered in
+    let reads = c.in_ok-virt.ensures.kept in
+    let taken = c.in_ok-take.ensures.takes c.args.runs.now gathers.ms gathers.gathered in
     let comes =
     IfSome_then (g.D.Device.state c.args.dev.now).held
-    (subst (λ o. IfSome o (λ image. IsNext (Some (virt, value)) (saved_left 8 block_time_of image now) (saved_left 8 block_time_of image later))) kept.held (rw c.in-Ok-Some.field-0-is at c.in-Ok-Some.ensures.next))
+    (subst (λ o. IfSome o (λ image. IsNext (Some (virt, value)) (saved_left 8 block_time_of image now) (saved_left 8 block_time_of image later))) kept.held (rw c.in-Some.is at c.in_ok-virt.ensures.next))
     (λ image next. comes_kept blocks virt value (saved_left 8 block_time_of image now) (saved_left 8 block_time_of image later) next c.if-mapping-blocks.true) in
     record {
       gathers =
@@ -32,11 +32,11 @@ loop-virt-preserved-in-Ok g c =
           (saved_least now) (saved_least later) c.args.runs.now c.loop-virt.runs c.loop-virt.gathering gathers virt value
           ascends.0 ascends.1
           c.take.new.runs c.take.new.self taken
-          c.in-Ok.ensures.fits c.if-mapping-blocks.true (time_below value (rw c.in-Ok-Some.field-0-is at c.in-Ok-Some.ensures.fits)) comes;
-      room = c.in-Ok-Some.ensures.room ∙ c.loop-virt.invariant.room;
-      knows = rw kept.held at c.in-Ok-Some.ensures.knows;
+          c.in_ok-take.ensures.fits c.if-mapping-blocks.true (time_below value (rw c.in-Some.is at c.in_ok-virt.ensures.fits)) comes;
+      room = c.in_ok-virt.ensures.room ∙ c.loop-virt.invariant.room;
+      knows = rw kept.held at c.in_ok-virt.ensures.knows;
       kept = only_reads_both kept reads;
-      faults = c.in-Ok-Some.ensures.faults ∙ c.loop-virt.invariant.faults;
+      faults = c.in_ok-virt.ensures.faults ∙ c.loop-virt.invariant.faults;
     }
 
 pub loop-virt-preserved : goal.loop-virt-preserved
@@ -44,16 +44,16 @@ loop-virt-preserved g c =
     let now = c.loop-virt.mappings in
     let later = c.next_known.new.self in
     let blocks = c.args.blocks in
-    let virt = c.in-Ok-Some.virt in
-    let value = c.in-Ok-Some.mapping in
+    let virt = c.in-Some.virt in
+    let value = c.in-Some.mapping in
     let gathers = c.loop-virt.invariant.gathers in
-    let ascends = rw c.in-Ok-Some.field-0-is at c.in-Ok-Some.ensures.ascends in
+    let ascends = rw c.in-Some.is at c.in_ok-virt.ensures.ascends in
     let kept = c.loop-virt.invariant.kept in
-    let reads = c.in-Ok-Some.ensures.kept in
+    let reads = c.in_ok-virt.ensures.kept in
     let out : blocks ≤ value.block = omega arith in
     let comes =
     IfSome_then (g.D.Device.state c.args.dev.now).held
-    (subst (λ o. IfSome o (λ image. IsNext (Some (virt, value)) (saved_left 8 block_time_of image now) (saved_left 8 block_time_of image later))) kept.held (rw c.in-Ok-Some.field-0-is at c.in-Ok-Some.ensures.next))
+    (subst (λ o. IfSome o (λ image. IsNext (Some (virt, value)) (saved_left 8 block_time_of image now) (saved_left 8 block_time_of image later))) kept.held (rw c.in-Some.is at c.in_ok-virt.ensures.next))
     (λ image next. comes_skipped blocks virt value (saved_left 8 block_time_of image now) (saved_left 8 block_time_of image later) next out) in
     record {
       gathers =
@@ -61,14 +61,14 @@ loop-virt-preserved g c =
           (λ image. to_come blocks image c.args.mappings.now) (λ image. to_come blocks image now) (λ image. to_come blocks image later)
           (saved_least now) (saved_least later) c.args.runs.now c.loop-virt.runs c.loop-virt.gathering gathers virt value
           ascends.0 ascends.1 comes;
-      room = c.in-Ok-Some.ensures.room ∙ c.loop-virt.invariant.room;
-      knows = rw kept.held at c.in-Ok-Some.ensures.knows;
+      room = c.in_ok-virt.ensures.room ∙ c.loop-virt.invariant.room;
+      knows = rw kept.held at c.in_ok-virt.ensures.knows;
       kept = only_reads_both kept reads;
-      faults = c.in-Ok-Some.ensures.faults ∙ c.loop-virt.invariant.faults;
+      faults = c.in_ok-virt.ensures.faults ∙ c.loop-virt.invariant.faults;
     }
 
-pub returns-in-Ok-end-clause-gathered : goal.returns-in-Ok-end-clause-gathered
-returns-in-Ok-end-clause-gathered g c =
+pub returns-clause-gathered : goal.returns-clause-gathered
+returns-clause-gathered g c =
     let now = c.loop-virt.mappings in
     let later = c.next_known.new.self in
     let blocks = c.args.blocks in
@@ -76,9 +76,9 @@ returns-in-Ok-end-clause-gathered g c =
     let kept = c.loop-virt.invariant.kept in
     let ends =
     IfSome_then (g.D.Device.state c.args.dev.now).held
-    (subst (λ o. IfSome o (λ image. IsNext {X = ℕ × BlockTime} None (saved_left 8 block_time_of image now) (saved_left 8 block_time_of image later))) kept.held (rw c.in-Ok-None.field-0-is at c.in-Ok-None.ensures.next))
+    (subst (λ o. IfSome o (λ image. IsNext {X = ℕ × BlockTime} None (saved_left 8 block_time_of image now) (saved_left 8 block_time_of image later))) kept.held (rw c.in_default.is at c.in_ok-virt.ensures.next))
     (λ image next. comes_none blocks (saved_left 8 block_time_of image now) (saved_left 8 block_time_of image later) next) in
     all_gathered blocks (saved_least c.args.mappings.now) (g.D.Device.state c.args.dev.now).held
     (λ image. to_come blocks image c.args.mappings.now) (λ image. to_come blocks image now) (saved_least now)
     c.args.runs.now c.loop-virt.runs c.end.new.runs c.loop-virt.gathering c.loop-virt.gathering.mapped gathers
-    (c.in-Ok-end.ensures c.args.runs.now gathers.ms gathers.gathered.joining) refl ends
+    (c.in_ok-end.ensures c.args.runs.now gathers.ms gathers.gathered.joining) refl ends

@@ -7,8 +7,8 @@ use Rattle.pd_salvage_shapes.specs.Tops.{AreTops, ReadsTops}
 use Rattle.pd_salvage_shapes.proofs.tops.read_tops.Given as goal
 
 -- the devices that were found and those that are left are all
-abbrev pub invariant-loop-id : goal.invariant-loop-id
-invariant-loop-id g l = record {
+abbrev pub invariant-loop-found : goal.invariant-loop-found
+invariant-loop-found g l = record {
   lawful : (rest : List Top) → AreTops (saved_least l.tops) rest → AreTops 0 (l.found.items ++ rest);
   told : IfSome (g.D.Device.state l.initial.dev).held (λ image. ReadsTops l.s image l.found.items l.tops l.details);
   room : saved_room l.tops ≡ l.s.meta_map.blocks;
@@ -17,5 +17,5 @@ invariant-loop-id g l = record {
   faults : (g.D.Device.state l.dev).faults ≡ (g.D.Device.state l.initial.dev).faults;
 }
 
-abbrev pub decreases-loop-id : goal.decreases-loop-id
-decreases-loop-id g l = saved_number 8 l.tops
+abbrev pub decreases-loop-found : goal.decreases-loop-found
+decreases-loop-found g l = saved_number 8 l.tops

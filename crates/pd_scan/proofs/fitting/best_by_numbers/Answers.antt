@@ -7,14 +7,14 @@ use Rattle.pd_scan.specs.Roots.{found_of}
 use Rattle.pd_scan.proofs.NumberLemmas.{best_alike, best_inside}
 use Rattle.pd_scan.proofs.fitting.best_by_numbers.Goals as goal
 
-pub returns-in-Ok-clause-inside : goal.returns-in-Ok-clause-inside
-returns-in-Ok-clause-inside g c =
+pub returns-clause-inside : goal.returns-clause-inside
+returns-clause-inside g c =
     let new = c.number_lists.new.trees in
     let places = c.in_ok-number_lists.ensures.places in
     best_inside new (size_of c.args.trees.now.tops) (λ t d. t < size_of new.tops) places.tops places.details c.best_of_tops.result c.best_of_tops.ensures
 
-pub returns-in-Ok-clause-best : goal.returns-in-Ok-clause-best
-returns-in-Ok-clause-best g c =
+pub returns-clause-best : goal.returns-clause-best
+returns-clause-best g c =
     let old = c.args.trees.now in
     let new = c.number_lists.new.trees in
     let places = c.in_ok-number_lists.ensures.places in

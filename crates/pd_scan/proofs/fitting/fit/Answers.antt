@@ -1,26 +1,9 @@
-use Rattle.std.proofs.Common.{arith}
 use Rattle.std.proofs.lemmas.Option.{IfSome_then}
 use Rattle.std.proofs.lemmas.Result.{IfOk-weaker}
 use Rattle.pd_laid.specs.FoundRoots.{lost_graph}
 use Rattle.pd_measures.proofs.SoundLemmas.{root_inside}
-use Rattle.pd_scan.proofs.PairLemmas.{fitting_inside}
 use Rattle.pd_scan.proofs.FitLemmas.{fitting_sound}
 use Rattle.pd_scan.proofs.fitting.fit.Goals as goal
-
-pub do_trees_fit-requires-clause-tops : goal.do_trees_fit-requires-clause-tops
-do_trees_fit-requires-clause-tops g c =
-    let inside = fitting_inside c.args.trees.now c.args.top c.args.details c.requires.may in
-    let top = inside.0 in
-    let within = c.requires.within in
-    omega arith
-
-pub do_trees_fit-requires-clause-details : goal.do_trees_fit-requires-clause-details
-do_trees_fit-requires-clause-details g c =
-    let inside = fitting_inside c.args.trees.now c.args.top c.args.details c.requires.may in
-    let details = inside.1 in
-    let places = c.requires.places.details in
-    let within = c.requires.within in
-    omega arith
 
 pub returns-clause-fits : goal.returns-clause-fits
 returns-clause-fits g c =

@@ -23,7 +23,7 @@ returns-clause-numbered g c =
     let old = c.args.trees.now.details_measures in
     let b = c.args.b in
     let sound = root_good graph image 4 c.args.trees.now.details told.details (told.number ∙ sym told.places) b (sym c.is_good.ensures ∙ c.if-not-is_good.false) in
-    details_numbered graph image old c.set.new.self c.args.numbers.now c.number_of.new.numbers c.in_ok-list.list b c.in-Ok.number (listed data_blocks sound)
+    details_numbered graph image old c.set.new.self c.args.numbers.now c.number_of.new.numbers c.in_ok-list.list b c.in_ok-number.number (listed data_blocks sound)
     (λ x. c.set.ensures.measures x
-    ∙ ap (λ (m : Measured). cond (nat_eq x b) m (measure_at old x)) (c.numbered.ensures ∙ ap (λ (m : Measured). with_number m c.in-Ok.number) c.get-measure.ensures))
-    are c.in-Ok.ensures)
+    ∙ ap (λ (m : Measured). cond (nat_eq x b) m (measure_at old x)) (c.numbered.ensures ∙ ap (λ (m : Measured). with_number m c.in_ok-number.number) c.get-measure.ensures))
+    are c.in_ok-number.ensures)

@@ -1,4 +1,4 @@
-use Rattle.std.proofs.Common.{◌≡◌, ℕ, IfOk, IfSome, sym, ◌∙◌, ap, subst, arith}
+use Rattle.std.proofs.Common.{◌≡◌, ℕ, IfOk, IfSome, sym, ◌∙◌, ap, subst}
 use Rattle.std.proofs.lemmas.Result.{IfOk-weaker}
 use Rattle.pd_kinds.specs.Graph.{Graph}
 use Rattle.pd_graph.specs.Notes.{size_of}
@@ -11,13 +11,6 @@ use Rattle.pd_scan.proofs.roots.find_roots_in.Goals as goal
 
 pub choose-requires-clause-places : goal.choose-requires-clause-places
 choose-requires-clause-places g c = places_by (g.F.Format.graph c.args.format.now).nr c.in_ok-trees.trees c.in_ok-trees.ensures.places
-
-pub choose-requires-clause-within : goal.choose-requires-clause-within
-choose-requires-clause-within g c =
-    let places = c.in_ok-trees.ensures.places.tops in
-    let within = c.requires.within in
-    let blocks = c.in_ok-trees.ensures.kept.blocks in
-    omega arith
 
 pub returns-clause-found : goal.returns-clause-found
 returns-clause-found g c =

@@ -10,13 +10,13 @@ returns-clause-wrote g c =
     let runs = held_runs c.args.held.now in
     let number : length (items_of_runs runs) ≡ c.args.held.now.number = length-items (mappings_of_runs runs) ∙ sym c.requires.number in
     let takes = c.in_ok-put_runs.ensures.takes in
-    let none = c.is_done-done.ensures.sizes (omega (arith, takes.items, c.in-Ok.ensures.items, number)) in
-    (took_all takes none (c.in-Ok.ensures.leaves (omega (arith, c.requires.some)) (items_of_runs runs) number)).0
+    let none = c.is_done-done.ensures.sizes (omega (arith, takes.items, c.in_ok-builder.ensures.items, number)) in
+    (took_all takes none (c.in_ok-builder.ensures.leaves (omega (arith, c.requires.some)) (items_of_runs runs) number)).0
 
 pub returns-clause-row_is : goal.returns-clause-row_is
 returns-clause-row_is g c =
     let runs = held_runs c.args.held.now in
     let number : length (items_of_runs runs) ≡ c.args.held.now.number = length-items (mappings_of_runs runs) ∙ sym c.requires.number in
     let takes = c.in_ok-put_runs.ensures.takes in
-    let none = c.is_done-done.ensures.sizes (omega (arith, takes.items, c.in-Ok.ensures.items, number)) in
-    (took_all takes none (c.in-Ok.ensures.leaves (omega (arith, c.requires.some)) (items_of_runs runs) number)).1
+    let none = c.is_done-done.ensures.sizes (omega (arith, takes.items, c.in_ok-builder.ensures.items, number)) in
+    (took_all takes none (c.in_ok-builder.ensures.leaves (omega (arith, c.requires.some)) (items_of_runs runs) number)).1

@@ -13,5 +13,5 @@ returns-clause-marked g c =
     on_ok_weaker c.walk_devices.result
     (λ walked. IfSome_then (g.D.Device.state c.args.dev.now).held walked (λ image walks proper.
     first_walk image (roots_below image c.args.s.now.mapping_root) (roots_of (cursor_items 8 root_of image c.in_ok-devices.devices)) (length c.args.marks.now) c.args.marks.now c.walk_devices.new.marks
-    c.requires.unseen c.walk_devices.ensures.same_number (ap (λ (items : List (ℕ × Root)). roots_of items) (c.in_ok-devices.ensures.roots image)) walks proper))
+    c.requires.unseen c.walk_devices.ensures.same_number (ap (λ (items : List (ℕ × Root)). roots_of items) (c.in_ok-devices.ensures.items image)) walks proper))
     c.walk_devices.ensures.walked

@@ -10,6 +10,6 @@ loop-i-preserved c =
     let block = c.args.block.now.0 in
     let i = c.loop-i.i in
     let taken = map (child_at block) (range_with_len 0 i) in
-    c.in_ok-add_waiting.ensures.added
+    c.in_ok-push.ensures.items
     ∙ (rw (c.loop-i.invariant, c.child.ensures, map-range_with_len_more (child_at block) 0 i i (omega arith))
     (append_assoc c.args.waiting.now.items taken (child_at block i ∷ [])))

@@ -10,7 +10,7 @@ use Rattle.pd_shared_leaves.proofs.walk.walk_tree.Goals as goal
 pub loop-b-init : goal.loop-b-init
 loop-b-init g c = record {
   walking = of_any (g.D.Device.state c.args.dev.now).held (λ image before proper tree marked.
-      rw (c.in_ok-add_waiting.ensures.added, c.requires.none) (begins image (length c.args.marks.now) before c.args.root c.args.marks.now tree marked));
+      rw (c.in_ok-push.ensures.items, c.requires.none) (begins image (length c.args.marks.now) before c.args.root c.args.marks.now tree marked));
   same_number = refl;
   reads = omega arith;
   kept = record { held = refl; access = refl; path = refl; blocks = refl; history = refl };

@@ -28,14 +28,10 @@ loop-i-init g c =
           (λ image. overflow_reads c.args.overflow.now image + (length (cursor_nodes 16 image c.args.index.now) + (bitmaps_for c.args.end - 0)))
           (λ image. omega arith) (searched_nowhere c.args.wanted bits 0 (min (16320 * 0) c.args.end) s (omega arith));
       places = if_all (g.A.Device.state c.args.meta.now).held _ (λ image j. ap (place_in (cursor_items 16 index_from image c.args.index.now)) (omega arith));
-      room = c.requires.within;
     }
 
-pub next_place-requires-clause-attached : goal.next_place-requires-clause-attached
-next_place-requires-clause-attached g c = still_attached _ _ c.loop-i.invariant.searched.kept c.requires.attached
-
-pub next_place-requires-clause-within : goal.next_place-requires-clause-within
-next_place-requires-clause-within g c = omega (arith, c.loop-i.invariant.room, c.loop-i.invariant.searched.kept.blocks)
+pub next_place-requires : goal.next_place-requires
+next_place-requires g c = record { attached = still_attached _ _ c.loop-i.invariant.searched.kept c.requires.attached }
 
 pub gather_at-requires-clause-attached : goal.gather_at-requires-clause-attached
 gather_at-requires-clause-attached g c = still_attached _ _ c.in-Ok.ensures.kept (still_attached _ _ c.loop-i.invariant.searched.kept c.requires.attached)
@@ -70,7 +66,6 @@ loop-i-preserved g c =
       places =
           if_then held (g.A.Device.state c.loop-i.meta).held _ _ _ before.searched.kept.held
           (λ image places next j. ap (place_in (cursor_items 16 index_from image c.args.index.now)) (add_next c.loop-i.i j) ∙ places (j + 1) ∙ next j) before.places placing.rest;
-      room = omega (arith, placing.room);
     }
 
 pub returns-clause-searched : goal.returns-clause-searched

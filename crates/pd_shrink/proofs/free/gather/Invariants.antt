@@ -1,6 +1,6 @@
 use Rattle.std.proofs.Common.{◌≡◌, ℕ, ◌+◌, ◌-◌, ◌*◌, ◌≤◌, min, length, IfSome}
 use Rattle.pd_kinds.specs.Bitmap.{bitmaps_for}
-use Rattle.pd_tree.specs.Cursor.{cursor_items, cursor_nodes, cursor_room}
+use Rattle.pd_tree.specs.Cursor.{cursor_items, cursor_nodes}
 use Rattle.pd_smap.specs.Entries.{index_from, place_in}
 use Rattle.pd_smap.specs.Steps.{bits_by}
 use Rattle.pd_shrink.specs.Gathered.{Searched, standing, with_reads}
@@ -15,5 +15,4 @@ invariant-loop-i g l = record {
       (with_reads (λ image. length (cursor_nodes 16 image l.index) + (bitmaps_for l.end - l.i)) (standing (g.A.Device.state l.meta) l.free l.overflow));
   places : IfSome (g.A.Device.state l.initial.meta).held (λ image. (j : ℕ)
       → place_in (cursor_items 16 index_from image l.initial.index) (l.i + j) ≡ place_in (cursor_items 16 index_from image l.index) j);
-  room : cursor_room l.index ≤ (g.A.Device.state l.initial.meta).blocks;
 }

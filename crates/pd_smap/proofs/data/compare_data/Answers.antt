@@ -10,6 +10,7 @@ use Rattle.pd_smap.specs.Counted.{faults_from}
 use Rattle.pd_smap.specs.Overflow.{comparison_state}
 use Rattle.pd_smap.specs.Steps.{with_nodes}
 use Rattle.pd_smap.proofs.OverflowLeftLemmas.{if_maps, if_then}
+use Rattle.pd_smap.proofs.CountLemmas.{on_err}
 use Rattle.pd_smap.proofs.MapLemmas.{data_added, data_front, nothing_added}
 use Rattle.pd_smap.proofs.data.compare_data.Goals as goal
 
@@ -17,6 +18,11 @@ pub returns-in-Err-clause-front : goal.returns-in-Err-clause-front
 returns-in-Err-clause-front g c =
     if_maps (g.D.Device.state c.args.dev.now).held _ _ (λ image front searchable index. front searchable)
     (nothing_added (g.D.Device.state c.args.dev.now).held (λ image. IsOverflow image c.args.root.now.overflow_root) (λ image. faults_from DataBlock (count_of c.args.counts.now) (stored_data_in image (index_of image c.args.root.now.bitmap_root) (overflow_of image c.args.root.now.overflow_root)) 0 c.args.root.now.blocks) c.args.report.now)
+
+pub returns-in_err-overflow-clause-front : goal.returns-in_err-overflow-clause-front
+returns-in_err-overflow-clause-front g c = on_err c.from_residual.result _ (
+    if_maps (g.D.Device.state c.args.dev.now).held _ _ (λ image front searchable index. front searchable)
+    (nothing_added (g.D.Device.state c.args.dev.now).held (λ image. IsOverflow image c.args.root.now.overflow_root) (λ image. faults_from DataBlock (count_of c.args.counts.now) (stored_data_in image (index_of image c.args.root.now.bitmap_root) (overflow_of image c.args.root.now.overflow_root)) 0 c.args.root.now.blocks) c.args.report.now))
 
 pub returns-in-Ok-compare_listed-clause-added : goal.returns-in-Ok-compare_listed-clause-added
 returns-in-Ok-compare_listed-clause-added g c =

@@ -25,14 +25,10 @@ loop-i-init g c = record {
       (with_nodes (λ image. length (cursor_nodes 16 image c.args.index.now) + (bitmaps_for c.args.blocks - 0)) (comparison_state (g.D.Device.state c.args.dev.now) c.args.overflow.now c.args.report.now)) (omega arith)
       (went_reads (record { space = DataBlock; refs = count_of c.args.counts.now; bits = bits_by (λ image. place_in (cursor_items 16 index_from image c.args.index.now)) }) 0 0 (comparison_state (g.D.Device.state c.args.dev.now) c.args.overflow.now c.args.report.now) (comparison_state (g.D.Device.state c.args.dev.now) c.args.overflow.now c.args.report.now) _ _ (λ image. omega arith) (went_nowhere (record { space = DataBlock; refs = count_of c.args.counts.now; bits = bits_by (λ image. place_in (cursor_items 16 index_from image c.args.index.now)) }) 0 (comparison_state (g.D.Device.state c.args.dev.now) c.args.overflow.now c.args.report.now)));
   places = if_all (g.D.Device.state c.args.dev.now).held _ (λ image j. ap (place_in (cursor_items 16 index_from image c.args.index.now)) (omega arith));
-  room = c.requires.within;
 }
 
-pub next_place-requires-clause-attached : goal.next_place-requires-clause-attached
-next_place-requires-clause-attached g c = still_attached _ _ c.loop-i.invariant.went.kept c.requires.attached
-
-pub next_place-requires-clause-within : goal.next_place-requires-clause-within
-next_place-requires-clause-within g c = omega (arith, c.loop-i.invariant.room, c.loop-i.invariant.went.kept.blocks)
+pub next_place-requires : goal.next_place-requires
+next_place-requires g c = record { attached = still_attached _ _ c.loop-i.invariant.went.kept c.requires.attached }
 
 pub compare_at-requires-clause-attached : goal.compare_at-requires-clause-attached
 compare_at-requires-clause-attached g c = still_attached _ _ c.in_ok-place.ensures.kept (still_attached _ _ c.loop-i.invariant.went.kept c.requires.attached)
@@ -76,7 +72,6 @@ loop-i-preserved g c = record {
   places =
       if_then (g.D.Device.state c.args.dev.now).held (g.D.Device.state c.loop-i.dev).held _ _ _ c.loop-i.invariant.went.kept.held
       (λ image places rest j. ap (place_in (cursor_items 16 index_from image c.args.index.now)) (add_next c.loop-i.i j) ∙ places (j + 1) ∙ rest j) c.loop-i.invariant.places c.in_ok-place.ensures.rest;
-  room = omega (arith, c.in_ok-place.ensures.room);
 }
 
 pub returns-clause-went : goal.returns-clause-went

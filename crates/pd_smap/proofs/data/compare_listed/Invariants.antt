@@ -1,8 +1,8 @@
-use Rattle.std.proofs.Common.{◌≡◌, ℕ, ◌+◌, ◌-◌, ◌*◌, ◌≤◌, min, length, IfSome}
+use Rattle.std.proofs.Common.{◌≡◌, ℕ, ◌+◌, ◌-◌, ◌*◌, min, length, IfSome}
 use Rattle.pd_kinds.specs.declared.fault.Space.TheVariants.{DataBlock}
 use Rattle.pd_kinds.specs.Bitmap.{bitmaps_for}
 use Rattle.pd_count.specs.Counted.{count_of}
-use Rattle.pd_tree.specs.Cursor.{cursor_items, cursor_nodes, cursor_room}
+use Rattle.pd_tree.specs.Cursor.{cursor_items, cursor_nodes}
 use Rattle.pd_smap.specs.Entries.{index_from, place_in}
 use Rattle.pd_smap.specs.Overflow.{comparison_state}
 use Rattle.pd_smap.specs.Steps.{ComparesRange, bits_by, with_nodes}
@@ -17,5 +17,4 @@ invariant-loop-i g l = record {
       (with_nodes (λ image. length (cursor_nodes 16 image l.index) + (bitmaps_for l.blocks - l.i)) (comparison_state (g.D.Device.state l.dev) l.overflow l.report));
   places : IfSome (g.D.Device.state l.initial.dev).held (λ image. (j : ℕ)
       → place_in (cursor_items 16 index_from image l.initial.index) (l.i + j) ≡ place_in (cursor_items 16 index_from image l.index) j);
-  room : cursor_room l.index ≤ (g.D.Device.state l.initial.dev).blocks;
 }

@@ -12,10 +12,10 @@ loop-i-init g c =
     let counts = c.args.counts.now in
     let all = index_items (count_of counts) counts.size c.args.first in
     let count : length all ≡ c.bitmap_number-number.result = length-index_items (count_of counts) counts.size c.args.first ∙ sym c.bitmap_number-number.ensures in
-    let n = c.in-Ok.ensures in
+    let n = c.in_ok-builder.ensures in
     record {
       same_reference = refl;
-      building = building_start all c.in-Ok.builder c.requires.closed (n.blocks c.args.draft.now.next all count) (n.root c.args.draft.now.next all count)
+      building = building_start all c.in_ok-builder.builder c.requires.closed (n.blocks c.args.draft.now.next all count) (n.root c.args.draft.now.next all count)
           (n.items ∙ sym count) (n.room ∙ ap (need_tree 16) (sym count)) n.low (index_ascends (count_of counts) counts.size c.args.first);
     }
 

@@ -16,12 +16,12 @@ loop-high-init g c =
     let all = overflow_items (count_of counts) counts.size in
     let count : length all ≡ c.overflow_number-number.result = sym c.overflow_number-number.ensures in
     let next = c.next_high-high.ensures in
-    let n = c.in-Ok.ensures in
+    let n = c.in_ok-builder.ensures in
     record {
       same_reference = refl;
-      building = subst (λ (rest : List Entry). IsBuilding 4 all rest c.in-Ok.builder (draft_state c.args.draft.now) (draft_state c.args.draft.now))
+      building = subst (λ (rest : List Entry). IsBuilding 4 all rest c.in_ok-builder.builder (draft_state c.args.draft.now) (draft_state c.args.draft.now))
           (items_start (count_of counts) counts.size c.next_high-high.result next.within next.between)
-          (building_start all c.in-Ok.builder c.requires.closed (n.blocks c.args.draft.now.next all count) (n.root c.args.draft.now.next all count)
+          (building_start all c.in_ok-builder.builder c.requires.closed (n.blocks c.args.draft.now.next all count) (n.root c.args.draft.now.next all count)
           (n.items ∙ sym count) (n.room ∙ ap (need_tree 4) (sym count)) n.low (overflow_ascends (count_of counts) counts.size));
       is_size = c.size-size.ensures.size;
       within = next.within;

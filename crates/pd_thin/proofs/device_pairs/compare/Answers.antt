@@ -21,8 +21,6 @@ loop-both-preserved g c = record {
   reads =
       reads_more _ _ _ _ _ (λ image. cursors_reads image c.args.cursors.now) (λ image. cursors_reads image c.loop-both.cursors) (λ image. cursors_reads image c.take_turn.new.cursors)
       c.loop-both.invariant.kept.held c.loop-both.invariant.reads c.in_ok-both.ensures.reads;
-  room = c.take_turn.ensures.room;
-  room_too = c.take_turn.ensures.room_too;
   rules = keeps_both c.args.audit.now c.loop-both.audit c.take_turn.new.audit c.loop-both.invariant.rules c.take_turn.ensures.rules;
   kept = only_reads_both c.loop-both.invariant.kept c.take_turn.ensures.kept;
   faults = c.in_ok-both.ensures.faults ∙ c.loop-both.invariant.faults;

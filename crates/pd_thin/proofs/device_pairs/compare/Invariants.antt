@@ -2,7 +2,7 @@ use Rattle.std.proofs.Common.{◌≡◌, ◌+◌, ◌≤◌, IfSome}
 use Rattle.pd_image.specs.Device.{OnlyReads}
 use Rattle.pd_graph.specs.Audit.{KeepsButRules}
 use Rattle.pd_tree.specs.Items.{root_of}
-use Rattle.pd_thin.specs.Peeked.{peeked_items, peeked_room}
+use Rattle.pd_thin.specs.Peeked.{peeked_items}
 use Rattle.pd_thin.specs.DeviceCursors.{cursors_number, cursors_reads}
 use Rattle.pd_thin.specs.DevicePairs.{details_of}
 use Rattle.pd_thin.proofs.TreePairLemmas.{Way}
@@ -16,8 +16,6 @@ invariant-loop-both g l = record {
       (λ image. peeked_items 24 details_of image l.initial.cursors.details) (λ image. peeked_items 24 details_of image l.cursors.details) l.same;
   reads : IfSome (g.D.Device.state l.initial.dev).held (λ image.
       (g.D.Device.state l.dev).reads + cursors_reads image l.cursors ≤ (g.D.Device.state l.initial.dev).reads + cursors_reads image l.initial.cursors);
-  room : peeked_room l.cursors.tops ≡ 0;
-  room_too : peeked_room l.cursors.details ≡ 0;
   rules : KeepsButRules l.initial.audit l.audit;
   kept : OnlyReads (g.D.Device.state l.initial.dev) (g.D.Device.state l.dev);
   faults : (g.D.Device.state l.dev).faults ≡ (g.D.Device.state l.initial.dev).faults;

@@ -12,6 +12,6 @@ returns-clause-exclusive g c =
     (one_told (g.D.Device.state c.args.dev.now).held
     (λ image tallies none own.
     let blocks = (thin_fields (block_at image 0)).meta_map.blocks in
-    are_exclusive image c.args.s.now blocks c.in-Ok.tallies c.tally_pool.new.tallies c.in-Ok.ensures.size c.in-Ok.ensures.devices c.in-Ok.ensures.tallied
+    are_exclusive image c.args.s.now blocks c.in_ok-tallies.tallies c.tally_pool.new.tallies c.in_ok-tallies.ensures.size c.in_ok-tallies.ensures.devices c.in_ok-tallies.ensures.tallied
     (rows_proper image c.args.s.now blocks (pool_roots image) own (c.pieces_are_those_of_the_shape.ensures image none).roots (c.leaves_are_below_roots.ensures.trees image none)) tallies)
     c.in_ok-tally_pool.ensures.walks)

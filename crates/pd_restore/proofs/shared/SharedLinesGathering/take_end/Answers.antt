@@ -16,19 +16,19 @@ end-requires-clause-gathered g c =
     let f = bare_follows p.before c.args.room end_line p.follows in
     record { so_far = as_gathered p.before c.args.room f.so_far; full = (end_follows c.args.room p.before f).complete }
 
-pub returns-in-Ok-clause-gathered : goal.returns-in-Ok-clause-gathered
-returns-in-Ok-clause-gathered g c before start f =
+pub returns-clause-gathered : goal.returns-clause-gathered
+returns-clause-gathered g c before start f =
     let bare = bare_follows before c.args.room end_line f in
     record {
-      gathered = c.in-Ok.ensures.gathered c.args.room before start bare.so_far.gathered (end_follows c.args.room before bare);
+      gathered = c.in_ok-end.ensures.gathered c.args.room before start bare.so_far.gathered (end_follows c.args.room before bare);
       lines = taken_lines before c.args.self.now.lines c.saturating_add-self.result f.so_far.gathered.lines (omega (arith, c.saturating_add-self.ensures)) (few_after c.args.room before end_line f);
       last = f.so_far.gathered.last;
     }
 
-pub returns-in-Ok-clause-need : goal.returns-in-Ok-clause-need
-returns-in-Ok-clause-need g c before start f =
+pub returns-clause-need : goal.returns-clause-need
+returns-clause-need g c before start f =
     let is = c.need_at_end-needed.ensures before start (draft_state c.args.draft.now) f.so_far.gathered f.lines.0.going f.so_far.need f.so_far.most in
     omega (arith, is, c.in_ok-within.ensures.need)
 
-pub returns-in-Err-clause-need : goal.returns-in-Err-clause-need
-returns-in-Err-clause-need g c before start f = rw c.of_build.ensures (no_room_asked c.in-Err.fault c.args.room _)
+pub returns-in_err-end-clause-need : goal.returns-in_err-end-clause-need
+returns-in_err-end-clause-need g c before start f = no_room_asked _ c.from_residual-in_err-end.result _ c.args.room _ c.from_residual-in_err-end.ensures.1

@@ -7,11 +7,11 @@ end-requires-clause-gathered g c =
     let f = c.requires.follows in
     record { so_far = as_gathered f.before c.args.room f.follows.so_far; full = (end_follows f.before f.follows.lines.0).complete }
 
-pub returns-in-Ok-clause-gathered : goal.returns-in-Ok-clause-gathered
-returns-in-Ok-clause-gathered g c before start f = c.in-Ok.ensures.gathered before start f.so_far.gathered (end_follows before f.lines.0).complete
+pub returns-clause-gathered : goal.returns-clause-gathered
+returns-clause-gathered g c before start f = c.in_ok-end.ensures.gathered before start f.so_far.gathered (end_follows before f.lines.0).complete
 
-pub returns-in-Ok-clause-need : goal.returns-in-Ok-clause-need
-returns-in-Ok-clause-need g c before start f = end_fits c.args.room before f.so_far.gathered.version f.so_far.need
+pub returns-clause-need : goal.returns-clause-need
+returns-clause-need g c before start f = end_fits c.args.room before f.so_far.gathered.version f.so_far.need
 
-pub returns-in-Err-clause-need : goal.returns-in-Err-clause-need
-returns-in-Err-clause-need g c before start f = rw c.of_build.ensures (no_room_asked c.in-Err.fault c.args.room _)
+pub returns-in_err-end-clause-need : goal.returns-in_err-end-clause-need
+returns-in_err-end-clause-need g c before start f = no_room_asked _ c.from_residual.result _ c.args.room _ c.from_residual.ensures.1

@@ -4,15 +4,15 @@ use Rattle.pd_restore_cache.specs.Repeats.{IsFirstRepeat}
 use Rattle.pd_restore_cache.proofs.OriginLemmas.{all_differ, repeats_there}
 use Rattle.pd_restore_cache.proofs.gather.Gathered.check_origins.Goals as goal
 
-pub returns-in-Ok-clause-repeated : goal.returns-in-Ok-clause-repeated
-returns-in-Ok-clause-repeated c =
-    let first = subst (λ (rows : List Row). IsFirstRepeat rows c.in-Ok.before) c.deref.ensures.value c.in-Ok.ensures in
+pub returns-then-before-len-clause-repeated : goal.returns-then-before-len-clause-repeated
+returns-then-before-len-clause-repeated c =
+    let first = subst (λ (rows : List Row). IsFirstRepeat rows c.in_ok-before.before) c.deref.ensures.value c.in_ok-before.ensures in
     let number = ap (λ (rows : List Row). length rows) c.deref.ensures.value in
-    let small : c.in-Ok.before < 2 ^ 63 = search rules in
-    rw c.repeated_after.ensures (repeats_there c.args.self.now c.in-Ok.before first (omega (arith, c.if-before-len.true, c.len.ensures, c.deref.ensures.len, number)) small)
+    let small : c.in_ok-before.before < 2 ^ 63 = search rules in
+    rw c.repeated_after.ensures (repeats_there c.args.self.now c.in_ok-before.before first (omega (arith, c.if-before-len.true, c.len.ensures, c.deref.ensures.len, number)) small)
 
-pub returns-in-Ok-2-clause-differ : goal.returns-in-Ok-2-clause-differ
-returns-in-Ok-2-clause-differ c =
-    let first = subst (λ (rows : List Row). IsFirstRepeat rows c.in-Ok.before) c.deref.ensures.value c.in-Ok.ensures in
+pub returns-clause-differ : goal.returns-clause-differ
+returns-clause-differ c =
+    let first = subst (λ (rows : List Row). IsFirstRepeat rows c.in_ok-before.before) c.deref.ensures.value c.in_ok-before.ensures in
     let number = ap (λ (rows : List Row). length rows) c.deref.ensures.value in
-    all_differ c.args.self.now c.in-Ok.before first (λ low. omega (arith, c.if-before-len.false, c.len.ensures, c.deref.ensures.len, number))
+    all_differ c.args.self.now c.in_ok-before.before first (λ low. omega (arith, c.if-before-len.false, c.len.ensures, c.deref.ensures.len, number))

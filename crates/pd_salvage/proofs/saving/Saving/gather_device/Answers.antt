@@ -6,11 +6,11 @@ use Rattle.pd_salvage.specs.Saving.{mappings_at}
 use Rattle.pd_salvage.proofs.SavingLemmas.{gathered_again, gathered_tree}
 use Rattle.pd_salvage.proofs.saving.Saving.gather_device.Goals as goal
 
-pub returns-in-Ok-clause-gathered : goal.returns-in-Ok-clause-gathered
-returns-in-Ok-clause-gathered g c =
+pub returns-then-last-root-clause-gathered : goal.returns-then-last-root-clause-gathered
+returns-then-last-root-clause-gathered g c =
     let old = c.args.self.now in
     rw (← c.if-last-root.true)
-    (gathered_again (g.D.Device.state c.args.dev.now).held old.s c.in-Some.last old.runs c.repeat_runs.new.runs (rw c.in-Some.is at c.requires.last) c.requires.fits c.in-Ok.ensures)
+    (gathered_again (g.D.Device.state c.args.dev.now).held old.s c.in-Some.last old.runs c.repeat_runs.new.runs (rw c.in-Some.is at c.requires.last) c.requires.fits c.in_ok-repeat_runs.ensures)
 
 pub gather-requires-clause-knows : goal.gather-requires-clause-knows
 gather-requires-clause-knows g c = if_any (g.D.Device.state c.args.dev.now).held c.restart.ensures.knows

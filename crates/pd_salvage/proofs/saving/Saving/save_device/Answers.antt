@@ -4,15 +4,15 @@ use Rattle.pd_salvage.specs.declared.saving.Saving.{Saving}
 use Rattle.pd_salvage.proofs.SavingLemmas.{saves_device}
 use Rattle.pd_salvage.proofs.saving.Saving.save_device.Goals as goal
 
-pub returns-in-Ok-add_device-clause-saves : goal.returns-in-Ok-add_device-clause-saves
-returns-in-Ok-add_device-clause-saves g c =
+pub returns-clause-saves : goal.returns-clause-saves
+returns-clause-saves g c =
     let now = c.gather_device.new.self in
     let same = c.gather_device.ensures.same in
-    let gathered = rw c.in-Ok.ensures.kept.held at c.in_ok-mapped.ensures.gathered in
+    let gathered = rw c.in_ok-details.ensures.kept.held at c.in_ok-mapped.ensures.gathered in
     let count = ap length gathered.runs_are ∙ length-append c.args.self.now.runs gathered.given in
     let number : c.len.result - c.len-first.result ≡ length gathered.given =
     rw (c.len.ensures, c.len-first.ensures) (omega (arith, count)) in
-    saves_device (g.D.Device.state c.args.dev.now).held c.args.id c.args.root c.in_ok-mapped.mapped (c.len.result - c.len-first.result) c.in-Ok.details c.args.self.now
+    saves_device (g.D.Device.state c.args.dev.now).held c.args.id c.args.root c.in_ok-mapped.mapped (c.len.result - c.len-first.result) c.in_ok-details.details c.args.self.now
     (record {
       alloc = now.alloc;
       s = now.s;
@@ -24,5 +24,5 @@ returns-in-Ok-add_device-clause-saves g c =
       runs = now.runs;
     })
     c.lost_details-lost.ensures.fits (ap (λ (saving : Saving). saving.s) same)
-    (rw (ap (λ (saving : Saving). saving.details) same) (rw c.lost_details-lost.ensures.lost at c.in-Ok.ensures.found))
-    gathered number (rw (ap (λ (saving : Saving). saving.devices) same) at c.in-Ok-add_device.ensures.added) c.in-Ok-add_device.ensures.fits
+    (rw (ap (λ (saving : Saving). saving.details) same) (rw c.lost_details-lost.ensures.lost at c.in_ok-details.ensures.found))
+    gathered number (rw (ap (λ (saving : Saving). saving.devices) same) at c.in_ok-add_device.ensures.added) c.in_ok-add_device.ensures.fits

@@ -41,7 +41,7 @@ returns-then-is_sound_inner-clause-reads g c =
     let b = c.args.b in
     let held = (g.D.Device.state c.args.dev.now).held in
     let pushes =
-    subst (λ (way : Way). PushesNode 8 held c.args.b c.args.range way c.push.new.self) c.if-again.ensures c.in-Ok.ensures.pushes in
+    subst (λ (way : Way). PushesNode 8 held c.args.b c.args.range way c.push.new.self) c.if-again.ensures c.in_ok-push.ensures.pushes in
     let block = (last_place c.push.new.self.stack).block.0 in
     let good = rw c.top.ensures at (sym c.if-is_sound_inner.ensures) in
     let both = and_parts (not (is_damaged 8 b block)) (is_inner_node block) good in
@@ -60,12 +60,12 @@ returns-then-is_sound_inner-clause-reads g c =
           c.requires.knows pushes.read;
     }
 
-pub returns-in-Ok-note_top-clause-reads : goal.returns-in-Ok-note_top-clause-reads
-returns-in-Ok-note_top-clause-reads g c =
+pub returns-clause-reads : goal.returns-clause-reads
+returns-clause-reads g c =
     let held = (g.D.Device.state c.args.dev.now).held in
     let pushes =
-    subst (λ (way : Way). PushesNode 8 held c.args.b c.args.range way c.push.new.self) c.if-again.ensures c.in-Ok.ensures.pushes in
-    let notes = c.in-Ok-note_top.ensures in
+    subst (λ (way : Way). PushesNode 8 held c.args.b c.args.range way c.push.new.self) c.if-again.ensures c.in_ok-push.ensures.pushes in
+    let notes = c.in_ok-note_top.ensures in
     record {
       same = notes.same;
       way = pushed_popped 8 held c.args.b c.args.range c.args.self.now.way c.push.new.self c.note_top.new.self.way pushes notes.pops;

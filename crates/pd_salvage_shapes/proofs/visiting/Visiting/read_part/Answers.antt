@@ -5,14 +5,14 @@ use Rattle.pd_salvage_shapes.proofs.NoteLemmas.{part_inside}
 use Rattle.pd_salvage.proofs.ToldLemmas.{pushed_popped}
 use Rattle.pd_salvage_shapes.proofs.visiting.Visiting.read_part.Goals as goal
 
-pub returns-in-Ok-made-clause-reads : goal.returns-in-Ok-made-clause-reads
-returns-in-Ok-made-clause-reads g c =
+pub returns-clause-reads : goal.returns-clause-reads
+returns-clause-reads g c =
     let old = c.args.self.now in
     let held = (g.D.Device.state c.args.dev.now).held in
-    let pushes = c.in-Ok.ensures.pushes in
+    let pushes = c.in_ok-push.ensures.pushes in
     let same = pushed_popped 8 held c.args.b c.args.range old.way c.push.new.self c.pop.new.self pushes c.pop.ensures in
-    let notes = c.in-Ok-made.ensures.notes in
-    let sound = c.in-Ok-made.ensures.sound in
+    let notes = c.in_ok-made.ensures.notes in
+    let sound = c.in_ok-made.ensures.sound in
     rw c.part_of.ensures (
     record {
       same = refl;
@@ -26,6 +26,6 @@ returns-in-Ok-made-clause-reads g c =
         sized = λ full. absurd (false≢true full);
       };
       part = refl;
-      inside = part_inside old.s.data_map.blocks c.args.b c.top.result.now.0 c.args.range c.in-Ok-made.note notes;
+      inside = part_inside old.s.data_map.blocks c.args.b c.top.result.now.0 c.args.range c.in_ok-made.field-0 notes;
       told = IfSome_then held pushes.read (λ image read. rw (read, ← c.top.ensures) notes.mappings);
     })

@@ -12,24 +12,24 @@ invariant_of-result c =
     record {
       across =
           subst (λ (n : ℕ). AllByRecursion (IsAcross c.args.each c.args.pool_blocks n) c.args.moves.items)
-          (sym (end_of_moved c.args.kept.now c.in-Ok.moved c.args.end (moves_in c.as_slice.result.now) c.in-Ok.ensures)) c.requires.across;
+          (sym (end_of_moved c.args.kept.now c.in_ok-moved.moved c.args.end (moves_in c.as_slice.result.now) c.in_ok-moved.ensures)) c.requires.across;
       once = c.requires.once;
-      fits = room_enough (kept_making c.in-Ok.moved) c.in-Some.need c.min-room.result c.args.output_blocks here c.in-Some.ensures c.if-need-room.false;
+      fits = room_enough (kept_making c.in_ok-moved.moved) c.in-Some.need c.min-room.result c.args.output_blocks here c.in-Some.ensures c.if-need-room.false;
     }
 
 pub returns-then-need-room : goal.returns-then-need-room
 returns-then-need-room c =
     let here : c.min-room.result ≡ room_of c.args.output_blocks = omega (arith, c.min-room.ensures) in
-    let moved = rw c.as_slice.ensures.value at c.in-Ok.ensures in (
-      need_finished c.args.kept.now c.in-Ok.moved c.args.end (moves_in c.args.moves.items) c.in-Some.need c.min-room.result c.args.output_blocks moved here c.in-Some.ensures,
+    let moved = rw c.as_slice.ensures.value at c.in_ok-moved.ensures in (
+      need_finished c.args.kept.now c.in_ok-moved.moved c.args.end (moves_in c.args.moves.items) c.in-Some.need c.min-room.result c.args.output_blocks moved here c.in-Some.ensures,
       (here, omega (arith, here, c.if-need-room.true)),
     )
 
 pub returns : goal.returns
 returns c =
     let here : c.min-room.result ≡ room_of c.args.output_blocks = omega (arith, c.min-room.ensures) in
-    let moved = rw c.as_slice.ensures.value at c.in-Ok.ensures in
-    let need = need_finished c.args.kept.now c.in-Ok.moved c.args.end (moves_in c.args.moves.items) c.in-Some.need c.min-room.result c.args.output_blocks moved here c.in-Some.ensures in
+    let moved = rw c.as_slice.ensures.value at c.in_ok-moved.ensures in
+    let need = need_finished c.args.kept.now c.in_ok-moved.moved c.args.end (moves_in c.args.moves.items) c.in-Some.need c.min-room.result c.args.output_blocks moved here c.in-Some.ensures in
     record {
       moved = moved;
       moves_are = refl;
