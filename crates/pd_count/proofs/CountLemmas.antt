@@ -1,5 +1,5 @@
 -- What one number that is put in one chunk comes to for all blocks, and one count more.
-use Rattle.std.proofs.Common.{◌≡◌, ◌≢◌, ℕ, ◌+◌, ◌*◌, ◌/◌, ◌%◌, ◌<◌, ◌≤◌, List, [], ◌∷◌, ◌++◌, length, get_or, sym, ◌∙◌, ap, refl, arith, inl, inr, eqb, cond}
+use Rattle.std.proofs.Common.{◌≡◌, ◌≢◌, ℕ, ◌+◌, ◌*◌, ◌/◌, ◌%◌, ◌<◌, ◌≤◌, min, List, [], ◌∷◌, ◌++◌, length, get_or, sym, ◌∙◌, ap, refl, arith, inl, inr, eqb, cond}
 use Rattle.std.specs.Prelude.{count_by}
 use Rattle.std.proofs.lemmas.List.{get_or_default}
 use Rattle.std.proofs.lemmas.List.Sums.{sum_by_push}
@@ -46,13 +46,9 @@ puts_by_chunk size b number was is old new chunk puts = record {
   ];
 }
 
--- one more at a block
-pub counts_one_more : (size b : ℕ) (was is : List ℕ) (old new : List (List ℕ)) → PutsChunk (b / 16320) was is old new
-    → PutsAt (b % 16320) (get_or was (b % 16320) 0 + 1) was is → CountsOneMore b (table size old) (table size new)
-unfolding count_of
-counts_one_more size b was is old new chunk puts =
-    let all = puts_by_chunk size b (get_or was (b % 16320) 0 + 1) was is old new chunk puts in
-    record { size = refl; counted = all.put ∙ ap (λ (numbers : List ℕ). get_or numbers (b % 16320) 0 + 1) (sym chunk.had); others = all.others }
+-- one more at a block, unless there is no greater number
+pub counts_one_more : (b : ℕ) (old new : Counted) → count_of old b < 4294967295 → PutsNumber b (min (count_of old b + 1) 4294967295) old new → CountsOneMore b old new
+counts_one_more b old new few puts = record { size = puts.size; counted = omega (arith, few, puts.put); others = puts.others }
 
 -- and the counts are those of a list with one more block
 pub counts_listed : (b : ℕ) (old new : Counted) → CountsOneMore b old new → (before : List ℕ) → HasCounted old before

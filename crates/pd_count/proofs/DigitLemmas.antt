@@ -50,6 +50,12 @@ raised d at below some =
           omega (arith, other k apart, other (16320 + k) (λ e. omega arith), other (32640 + k) (λ e. omega arith), other (48960 + k) (λ e. omega arith));
     }
 
+-- a number whose lowest digit has room is not the greatest
+pub room_for_one : (d : List ℕ) (at : ℕ) → get_or d at 0 < 255 → get_or d (16320 + at) 0 < 256 → get_or d (32640 + at) 0 < 256
+    → get_or d (48960 + at) 0 < 256 → digits_number d at < 4294967295
+unfolding digits_number
+room_for_one d at first second third fourth = omega arith
+
 -- a digit was put
 pub record PutsDigit (i digit : ℕ) (old new : List ℕ) : Type 0 where
   pub put : get_or new i 0 ≡ digit

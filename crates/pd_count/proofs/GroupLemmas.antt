@@ -5,9 +5,9 @@ use Rattle.std.proofs.lemmas.Bool.{cases_eq, cases_lt}
 use Rattle.std.proofs.lemmas.List.{get_or_default, get_or_past}
 use Rattle.std.proofs.lemmas.List.FromFn.{get_or-map-range_with_len, length-map-range_with_len}
 use Rattle.std.proofs.Math.Nat.{div-add-mod}
-use Rattle.pd_count.specs.Counted.{Counted, count_of, CountsOneMore, PutsNumber}
+use Rattle.pd_count.specs.Counted.{Counted, count_of, PutsNumber}
 use Rattle.pd_count.specs.Groups.{Grouped, PutsInGroup, chunk_in, chunk_of, chunks_in, no_group}
-use Rattle.pd_count.proofs.CountLemmas.{PutsChunk, chunk_counts, counts_one_more, none_counted, puts_by_chunk}
+use Rattle.pd_count.proofs.CountLemmas.{PutsChunk, chunk_counts, none_counted, puts_by_chunk}
 use Rattle.pd_count.proofs.PlaceLemmas.{none_made}
 
 -- the table of these groups
@@ -61,15 +61,6 @@ pub group_puts : (size : ℕ) (groups : List Grouped) (b number : ℕ) (old new 
     → PutsNumber b number (table size groups) (table size (set groups (b / 16320 / 64) new))
 group_puts size groups b number old new within read puts =
     puts_by_chunk size b number (chunk_of old (b / 16320 % 64)) (chunk_of new (b / 16320 % 64)) (chunks_in groups) (chunks_in (set groups (b / 16320 / 64) new))
-    (puts_chunk groups (b / 16320) old new within read puts.others) puts.put
-
--- one more at a block, by its group
-pub group_adds : (size : ℕ) (groups : List Grouped) (b : ℕ) (old new : Grouped) → b / 16320 / 64 < length groups
-    → old ≡ get_or groups (b / 16320 / 64) old
-    → PutsInGroup (b / 16320 % 64) (b % 16320) (get_or (chunk_of old (b / 16320 % 64)) (b % 16320) 0 + 1) old new
-    → CountsOneMore b (table size groups) (table size (set groups (b / 16320 / 64) new))
-group_adds size groups b old new within read puts =
-    counts_one_more size b (chunk_of old (b / 16320 % 64)) (chunk_of new (b / 16320 % 64)) (chunks_in groups) (chunks_in (set groups (b / 16320 / 64) new))
     (puts_chunk groups (b / 16320) old new within read puts.others) puts.put
 
 -- the count of a block by its group

@@ -1,5 +1,5 @@
 -- Where the chunks of a group stand, and what a number that is put in one of them comes to for the group.
-use Rattle.std.proofs.Common.{◌≡◌, ◌≢◌, ◌⊎◌, ℕ, zero, suc, ◌+◌, ◌-◌, ◌*◌, ◌%◌, ◌^◌, ◌<◌, ◌≤◌, Bool, true, cond, eqb, List, [], length, get_or, set, inl, inr, refl, sym, ◌∙◌, ap, subst, arith, bit_and, bit_or, count_ones, get_or-set_same, get_or-set_other}
+use Rattle.std.proofs.Common.{◌≡◌, ◌≢◌, ◌⊎◌, ℕ, zero, suc, ◌+◌, ◌-◌, ◌*◌, ◌%◌, ◌^◌, ◌<◌, ◌≤◌, min, Bool, true, cond, eqb, List, [], length, get_or, set, inl, inr, refl, sym, ◌∙◌, ap, subst, arith, bit_and, bit_or, count_ones, get_or-set_same, get_or-set_other}
 use Rattle.std.specs.Int.{bit_at, w64}
 use Rattle.std.specs.List.{insert}
 use Rattle.std.proofs.Math.Nat.{pow-suc}
@@ -103,8 +103,8 @@ pub none_made : (i : ℕ) → chunk_of no_group i ≡ []
 none_made i = chunk_missing no_group i (bit_at-zero i)
 
 -- the first count of a chunk
-pub first_count : (g : Grouped) (i at : ℕ) → bit_at g.made i ≡ 0 → 1 ≡ get_or (chunk_of g i) at 0 + 1
-first_count g i at unset = ap (λ (xs : List ℕ). get_or xs at 0 + 1) (sym (chunk_missing g i unset))
+pub first_count : (g : Grouped) (i at : ℕ) → bit_at g.made i ≡ 0 → 1 ≡ min (get_or (chunk_of g i) at 0 + 1) 4294967295
+first_count g i at unset = ap (λ (xs : List ℕ). min (get_or xs at 0 + 1) 4294967295) (sym (chunk_missing g i unset))
 
 -- a chunk that is made stands among those that are made
 pub stands_at : (m : ℕ) (chunks : List (List ℕ)) (i p : ℕ) (test : Bool) → test ≡ eqb (bit_at m i) 1 → test ≡ true → p ≡ made_before m i → i < 64
@@ -147,13 +147,13 @@ puts_in_made m chunks i at number place was is stands read puts =
       ]));
     }
 
--- one more in a chunk that is made
+-- one more in a chunk that is made, unless there is no greater number
 pub adds_in_made : (m : ℕ) (chunks : List (List ℕ)) (i at place : ℕ) (was is : List ℕ) → IsPlace m (length chunks) i place → was ≡ get_or chunks place was
-    → PutsAt at (get_or was at 0 + 1) was is
-    → PutsInGroup i at (get_or (chunk_of (group m chunks) i) at 0 + 1) (group m chunks) (group m (set chunks place is))
+    → PutsAt at (min (get_or was at 0 + 1) 4294967295) was is
+    → PutsInGroup i at (min (get_or (chunk_of (group m chunks) i) at 0 + 1) 4294967295) (group m chunks) (group m (set chunks place is))
 adds_in_made m chunks i at place was is stands read puts =
-    subst (λ (numbers : List ℕ). PutsInGroup i at (get_or numbers at 0 + 1) (group m chunks) (group m (set chunks place is)))
-    (sym (chunk_read m chunks i place was stands read)) (puts_in_made m chunks i at (get_or was at 0 + 1) place was is stands read puts)
+    subst (λ (numbers : List ℕ). PutsInGroup i at (min (get_or numbers at 0 + 1) 4294967295) (group m chunks) (group m (set chunks place is)))
+    (sym (chunk_read m chunks i place was stands read)) (puts_in_made m chunks i at (min (get_or was at 0 + 1) 4294967295) place was is stands read puts)
 
 -- bit i was set
 abbrev with_bit : ℕ → ℕ → ℕ

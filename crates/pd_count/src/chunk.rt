@@ -1,6 +1,6 @@
 //! The numbers of the blocks that one bitmap covers.
 
-ghost use Rattle.std.specs.Prelude.{◌≡◌, ℕ, ◌+◌, ◌-◌, ◌^◌, ◌<◌, ◌≤◌, ◌==◌, [], true, false, take, length, slice_index, IfOk, OnOk, OnErr, MatchOption};
+ghost use Rattle.std.specs.Prelude.{◌≡◌, ℕ, ◌+◌, ◌-◌, ◌^◌, ◌<◌, ◌≤◌, ◌==◌, [], true, false, take, length, slice_index, IfOk, OnOk, OnErr, MatchOption, min};
 ghost use Rattle.std.specs.List.{count_by};
 
 use crate::few::{self, Entry};
@@ -48,15 +48,6 @@ impl Model for Chunk {
 
 impl Chunk {
     ghost use Rattle.pd_count.specs.Counted.{PutsAt};
-
-    /// A chunk that isn't made. It takes no memory.
-    pub fn absent(alloc: Global) -> Chunk
-        ensures { result ≡ [] }
-    {
-        Chunk {
-            form: Form::Few(Vec::new(alloc)),
-        }
-    }
 
     /// A chunk that is to be made. It takes the memory of a short list of places.
     ///
@@ -143,18 +134,20 @@ impl Chunk {
         }
     }
 
-    /// Raises the number at a place by one, and makes the chunk where it isn't there. Want of memory leaves all as
-    /// before.
-    pub(crate) fn add(&mut self, at: usize) -> Result<(), AllocError>
-        requires place { at < 16320 }
-        requires few { slice_index self.old at < 2 ^ 32 - 1 }
-        ensures added { OnOk result (PutsAt at (slice_index self.old at + 1) self.old self.new) }
+    /// Raises the number at a place by one, unless it is as great as it can be, and makes the chunk where it isn't there.
+    /// Want of memory leaves all as before.
+    pub(crate) fn saturating_add(&mut self, at: usize) -> Result<(), AllocError>
+        requires { at < 16320 }
+        ensures added { OnOk result (PutsAt at (min (slice_index self.old at + 1) (2 ^ 32 - 1)) self.old self.new) }
         ensures err { OnErr result (self.new ≡ self.old) }
     {
         if self.raise(at) {
             return Ok(());
         }
         let number = self.get(at);
+        if number == u32::MAX {
+            return Ok(());
+        }
         self.set(at, number + 1)
     }
 
@@ -162,6 +155,7 @@ impl Chunk {
     fn raise(&mut self, at: usize) -> bool
         requires { at < 16320 }
         ensures raised { result ≡ true → PutsAt at (slice_index self.old at + 1) self.old self.new }
+        ensures few { result ≡ true → slice_index self.old at < 2 ^ 32 - 1 }
         ensures same { result ≡ false → self.new ≡ self.old }
     {
         match &mut self.form {

@@ -1,6 +1,6 @@
 //! A table of counts.
 
-ghost use Rattle.std.specs.Prelude.{◌≡◌, ℕ, ◌+◌, ◌-◌, ◌^◌, ◌<◌, ◌≤◌, List, [], ◌∷◌, ◌++◌, IfOk, OnOk, OnErr, MatchOption};
+ghost use Rattle.std.specs.Prelude.{◌≡◌, ℕ, ◌+◌, ◌-◌, ◌^◌, ◌<◌, ◌≤◌, List, [], ◌∷◌, ◌++◌, IfOk, OnOk, OnErr, MatchOption, min};
 
 use crate::CHUNK_COUNTS;
 use crate::chunk::Chunk;
@@ -62,9 +62,25 @@ impl Counts {
         ensures listed { OnOk result ((before : List ℕ) → HasCounted self.old before → HasCounted self.new (before ++ b ∷ [])) }
         ensures err { OnErr result (self.new ≡ self.old) }
     {
+        self.saturating_add(b)?;
+        Ok(())
+    }
+
+    /// Counts the block once more, unless its count is as great as it can be, which is 2^32 - 1. It takes memory as `add`
+    /// does.
+    ///
+    /// Fails with `AllocError` where that memory wasn't found; then all is as before.
+    pub fn saturating_add(&mut self, b: u64) -> Result<(), AllocError>
+        requires { b < self.old.size }
+        ensures put { OnOk result (PutsNumber b (min (count_of self.old b + 1) (2 ^ 32 - 1)) self.old self.new) }
+        // So it is one count more, unless there is no greater one.
+        ensures added { OnOk result (count_of self.old b < 2 ^ 32 - 1 → CountsOneMore b self.old self.new) }
+        ensures listed { OnOk result (count_of self.old b < 2 ^ 32 - 1 → (before : List ℕ) → HasCounted self.old before → HasCounted self.new (before ++ b ∷ [])) }
+        ensures err { OnErr result (self.new ≡ self.old) }
+    {
         let i = (b / CHUNK_COUNTS as u64) as usize;
         let at = (b % CHUNK_COUNTS as u64) as usize;
-        self.groups[i / GROUP_CHUNKS].add(i % GROUP_CHUNKS, at)?;
+        self.groups[i / GROUP_CHUNKS].saturating_add(i % GROUP_CHUNKS, at)?;
         Ok(())
     }
 

@@ -1,6 +1,6 @@
 //! A group of chunks, each of which is made when a block in it is first counted.
 
-ghost use Rattle.std.specs.Prelude.{◌≡◌, ℕ, ◌+◌, ◌-◌, ◌^◌, ◌<◌, ◌≤◌, ◌==◌, [], length, slice_index, slice_index_or, IfOk, OnOk, OnErr, MatchOption};
+ghost use Rattle.std.specs.Prelude.{◌≡◌, ℕ, ◌+◌, ◌-◌, ◌^◌, ◌<◌, ◌≤◌, ◌==◌, [], length, slice_index, slice_index_or, IfOk, OnOk, OnErr, MatchOption, min};
 ghost use Rattle.std.specs.Int.{bit_at};
 ghost use Rattle.std.specs.List.{insert};
 ghost use Rattle.pd_count.specs.Groups.{made_before, no_group};
@@ -80,19 +80,18 @@ impl Group {
         }
     }
 
-    /// Raises the number at a place of chunk `i` by one, and makes the chunk where it isn't made. Want of memory leaves
-    /// all as before.
-    pub(crate) fn add(&mut self, i: usize, at: usize) -> Result<(), AllocError>
+    /// Raises the number at a place of chunk `i` by one, unless it is as great as it can be, and makes the chunk where it
+    /// isn't made. Want of memory leaves all as before.
+    pub(crate) fn saturating_add(&mut self, i: usize, at: usize) -> Result<(), AllocError>
         requires chunk { i < 64 }
         requires place { at < 16320 }
-        requires few { slice_index (chunk_of self.old i) at < 2 ^ 32 - 1 }
-        ensures added { OnOk result (PutsInGroup i at (slice_index (chunk_of self.old i) at + 1) self.old self.new) }
+        ensures added { OnOk result (PutsInGroup i at (min (slice_index (chunk_of self.old i) at + 1) (2 ^ 32 - 1)) self.old self.new) }
         ensures err { OnErr result (self.new ≡ self.old) }
     {
         let Some(place) = self.place(i) else {
             return self.begin(i, at, 1);
         };
-        self.chunks[place].add(at)?;
+        self.chunks[place].saturating_add(at)?;
         Ok(())
     }
 

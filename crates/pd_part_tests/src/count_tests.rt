@@ -168,6 +168,21 @@ fn one_block_of_many_has_a_great_count(rt: HostRuntime) -> Result<(), Fail> {
 }
 
 #[test]
+fn no_count_goes_past_the_greatest(rt: HostRuntime) -> Result<(), Fail> {
+    let mut counts = Counts::new(rt.alloc(), 600)?;
+    count_all(&rt, &mut counts, &counting_of((0, 2, 300, 1, false)))?;
+    assert!(rt; counts.size() == 600);
+    counts.set(5, u32::MAX - 1)?;
+    for _ in 0..3 {
+        assert!(rt; counts.size() == 600);
+        counts.saturating_add(5)?;
+        expect_count(&rt, &counts, 5, u32::MAX);
+    }
+    expect_count(&rt, &counts, 4, 1);
+    Ok(())
+}
+
+#[test]
 fn a_huge_table_takes_memory_where_a_block_is_counted(rt: HostRuntime) -> Result<(), Fail> {
     let mut counts = Counts::new(rt.alloc(), 1099511627776)?;
     count(&rt, &mut counts, 0)?;

@@ -36,8 +36,8 @@ fn add_ref(counts: &mut Counts, d: u64) -> Result<(), AllocError>
     ensures counted { OnOk result ((before : List ℕ) → HasCounted counts.old before → d < counts.old.size → length before < 2 ^ 32 - 1
         → HasCounted counts.new (before ++ d ∷ [])) }
 {
-    if d < counts.size() && counts.get(d) < u32::MAX {
-        counts.add(d)?;
+    if d < counts.size() {
+        counts.saturating_add(d)?;
     }
     Ok(())
 }
