@@ -13,6 +13,8 @@ mod build_tests;
 #[cfg(test)]
 mod built;
 #[cfg(test)]
+mod cache_maps_tests;
+#[cfg(test)]
 mod count_tests;
 #[cfg(test)]
 mod crc_tests;
