@@ -1,10 +1,10 @@
 -- The pool whose data blocks were moved is lawful, and its runs and moves fit.
-use Rattle.std.proofs.Common.{◌≡◌, inl, inr, ℕ, zero, suc, ◌+◌, ◌^◌, ◌≤◌, Bool, true, ◌&&◌, nat_eq, nat_le, List, [], ◌∷◌, ◌++◌, length, map, filter, take, drop, ap, sym, subst, ◌∙◌, arith, le_refl, le_trans}
+use Rattle.std.proofs.Common.{◌≡◌, inl, inr, ℕ, zero, suc, ◌+◌, ◌^◌, ◌≤◌, Bool, true, ◌&&◌, nat_eq, nat_le, List, [], ◌∷◌, ◌++◌, length, map, filter, take, drop, refl, ap, ap₂, sym, subst, ◌∙◌, arith, le_refl, le_trans}
 use Rattle.std.specs.List.{AllByRecursion, list_any, range_with_len}
 use Rattle.std.proofs.lemmas.Bool.{and_parts, cases_Bool, leb-true}
 use Rattle.std.proofs.lemmas.List.{nil_from_length, take-append-drop}
 use Rattle.pd_kinds.specs.Meaning.{Mapping, ThinDevice, ThinPool}
-use Rattle.pd_answers.specs.MovedPool.{Move, moved_pool, moves_to, sources}
+use Rattle.pd_answers.specs.MovedPool.{Move, moved_device, moved_mapping, moved_pool, moves_to, sources}
 use Rattle.pd_laws.proofs.AllLemmas.{all_append}
 use Rattle.pd_changed.specs.Moving.{AreBelow, Ascend, IsMoving}
 use Rattle.pd_changed.proofs.FreeBlocks.{kept_ascend}
@@ -15,10 +15,9 @@ use Rattle.pd_thin_meaning.specs.declared.joined.Run.{Run}
 use Rattle.pd_salvage.specs.declared.saved.SavedDevice.{SavedDevice}
 use Rattle.pd_salvage.specs.declared.saved.SavedHead.{SavedHead}
 use Rattle.pd_salvage.specs.Gather.{mappings_of_runs}
-use Rattle.pd_salvage.specs.Saved.{IsSavedPool, SavedPool, parts_of, pool_of, runs_of_devices}
-use Rattle.pd_shrink.specs.declared.moving.Moved.{Moved}
-use Rattle.pd_shrink.specs.Moving.{AreMoved, AreMovesFrom, AreMovesOf, FitsRun, head_to}
-use Rattle.pd_shrink.proofs.MovingLemmas.{others}
+use Rattle.pd_salvage.specs.Saved.{IsJoined, IsSavedPool, SavedPool, part_of, parts_of, pool_of, runs_of_devices}
+use Rattle.pd_shrink.specs.Moving.{AreJoined, AreMoved, AreMovesFrom, AreMovesOf, FitsRun, bare_device, head_to, moved_mappings, runs_of_device, split_mappings, split_runs}
+use Rattle.pd_shrink.proofs.PartLemmas.{parts_rest}
 
 -- what is kept of a range ascends from a number that all of it have passed
 kept_past : (test : ℕ → Bool) (least a n : ℕ) → ((d : ℕ) → test d ≡ true → least ≤ d) → Ascend least (filter test (range_with_len a n))
@@ -72,7 +71,29 @@ parts_fit blocks least [] runs few are number = rw (nil_from_length runs (sym nu
 parts_fit blocks least (d ∷ ds) runs few are number =
     subst (AllByRecursion FitsRun) (take-append-drop d.runs runs)
     (all_append FitsRun (take d.runs runs) (drop d.runs runs) (part_fits blocks 0 (take d.runs runs) few are.0.mappings)
-    (parts_fit blocks (d.id + 1) ds (drop d.runs runs) few are.1 (others d ds runs number)))
+    (parts_fit blocks (d.id + 1) ds (drop d.runs runs) few are.1 (parts_rest runs_of_device bare_device d ds runs number)))
+
+-- devices by what they say beside their runs, and by their mappings
+abbrev with_mappings : ThinDevice → List Mapping → ThinDevice
+with_mappings d ms = record { id = d.id; mapped = d.mapped; transaction = d.transaction; created = d.created; snapped = d.snapped; mappings = ms }
+
+abbrev devices_by : List ThinDevice → List (List Mapping) → List ThinDevice
+devices_by [] parts = []
+devices_by (d ∷ ds) [] = []
+devices_by (d ∷ ds) (ms ∷ parts) = with_mappings d ms ∷ devices_by ds parts
+
+devices_split : (ds : List SavedDevice) (runs : List Run) → map device_of_part (parts_of ds runs) ≡ devices_by (map bare_device ds) (split_mappings runs_of_device ds runs)
+devices_split [] runs = refl
+devices_split (d ∷ ds) runs = ap (λ (xs : List ThinDevice). device_of_part (part_of d (take d.runs runs)) ∷ xs) (devices_split ds (drop d.runs runs))
+
+devices_moved : (moves : List Move) (ds : List ThinDevice) (parts : List (List Mapping)) → devices_by ds (moved_mappings moves parts) ≡ map (moved_device moves) (devices_by ds parts)
+devices_moved moves [] parts = refl
+devices_moved moves (d ∷ ds) [] = refl
+devices_moved moves (d ∷ ds) (ms ∷ parts) = ap (λ (xs : List ThinDevice). with_mappings d (map (moved_mapping moves) ms) ∷ xs) (devices_moved moves ds parts)
+
+devices_joined : (ds : List SavedDevice) (runs : List Run) → AllByRecursion AreJoined (split_runs runs_of_device ds runs) → AllByRecursion IsJoined (parts_of ds runs)
+devices_joined [] runs joined = tt
+devices_joined (d ∷ ds) runs joined = (joined.0, devices_joined ds (drop d.runs runs) joined.1)
 
 -- a pool with this head
 abbrev pool_with : SavedHead → List ThinDevice → ThinPool
@@ -90,23 +111,26 @@ module _ (saved : SavedPool) (sound : IsSavedPool saved) (end : ℕ) (moves : Li
   runs_fit = parts_fit saved.head.blocks 0 saved.devices saved.runs sound.lawful.data_blocks_fit sound.lawful.devices sound.number
 
   -- the moved devices and runs are those of the smaller pool
-  module _ (head : SavedHead) (devices : List SavedDevice) (runs : List Run) (moved : Moved) (head_is : head ≡ head_to saved.head end) (devices_are : devices ≡ saved.devices)
-      (runs_are : runs ≡ saved.runs) (is : AreMoved moves devices runs moved) where
+  module _ (head : SavedHead) (devices : List SavedDevice) (runs : List Run) (head_is : head ≡ head_to saved.head end)
+      (is : AreMoved runs_of_device bare_device moves saved.devices saved.runs devices runs) where
     abbrev after : SavedPool
-    after = record { head = head; devices = moved.devices.items; runs = moved.runs }
+    after = record { head = head; devices = devices; runs = runs }
 
     pub pool_after : pool_of after ≡ moved_pool (pool_of saved) end moves
     unfolding pool_of moved_pool
     pool_after =
-        let same = rw (devices_are, runs_are) at is.same in
-        ap (λ (first : SavedHead). pool_with first (map device_of_part (parts_of moved.devices.items moved.runs))) head_is
-        ∙ ap (pool_with (head_to saved.head end)) same
+        ap (λ (first : SavedHead). pool_with first (map device_of_part (parts_of devices runs))) head_is
+        ∙ ap (pool_with (head_to saved.head end))
+        (devices_split devices runs
+        ∙ (ap₂ devices_by is.same is.moved
+        ∙ (devices_moved moves (map bare_device saved.devices) (split_mappings runs_of_device saved.devices saved.runs)
+        ∙ ap (map (moved_device moves)) (sym (devices_split saved.devices saved.runs)))))
 
     pub after_sound : ((m : ThinPool) (end : ℕ) (free : List ℕ) → IsLawfulPool m → IsMoving m end free → IsLawfulPool (moved_pool m end (moves_to (sources m end) free))) → IsSavedPool after
     after_sound law = record {
       lawful =
           subst IsLawfulPool (sym pool_after)
           (subst (λ (xs : List Move). IsLawfulPool (moved_pool (pool_of saved) end xs)) (sym are.are) (law (pool_of saved) end are.free sound.lawful are.moving));
-      joined = is.joined;
+      joined = devices_joined devices runs is.joined;
       number = is.number;
     }

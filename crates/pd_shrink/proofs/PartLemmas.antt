@@ -1,17 +1,15 @@
 -- Parts of a pool with their runs, whose data blocks are moved one part after another.
-use Rattle.std.proofs.Common.{◌≡◌, ℕ, suc, ◌+◌, ◌<◌, ◌≤◌, get_or, List, [], ◌∷◌, ◌++◌, length, map, take, drop, drop-cons, add-one, refl, ap, sym, subst, ◌∙◌, arith, append_assoc, length-drop}
+use Rattle.std.proofs.Common.{◌≡◌, ℕ, suc, ◌+◌, ◌<◌, ◌≤◌, get_or, List, [], ◌∷◌, ◌++◌, length, map, take, drop, drop-cons, add-one, ap, sym, subst, ◌∙◌, arith, append_assoc, length-drop}
 use Rattle.std.specs.List.{AllByRecursion}
 use Rattle.std.specs.Prelude.{sum_by}
-use Rattle.std.proofs.lemmas.List.{append-nil, drop-append-le, drop_all, length-append, map-append, nil_from_length, take-append-le, take_all}
+use Rattle.std.proofs.lemmas.List.{drop-append-le, length-append, map-append, nil_from_length, take-append-le, take_all}
 use Rattle.std.proofs.lemmas.List.Sums.{sum_by-append, sum_by-cons}
 use Rattle.pd_kinds.specs.Meaning.{Mapping}
-use Rattle.pd_answers.specs.MovedPool.{Move, moved_mapping}
+use Rattle.pd_answers.specs.MovedPool.{Move}
 use Rattle.pd_laws.proofs.AllLemmas.{all_append}
-use Rattle.pd_spells.specs.ThinText.{joined_runs}
 use Rattle.pd_thin_meaning.specs.declared.joined.Run.{Run}
-use Rattle.pd_thin_meaning.specs.Joined.{spelled}
-use Rattle.pd_salvage.specs.Gather.{HasRuns, mappings_of_runs}
-use Rattle.pd_shrink.specs.Moving.{AddsPart, AreJoined, ArePartsMoved, FitsRun, moved_mappings, split_mappings, split_runs}
+use Rattle.pd_salvage.specs.Gather.{mappings_of_runs}
+use Rattle.pd_shrink.specs.Moving.{AddsPart, AreJoined, FitsRun, moved_mappings, split_mappings, split_runs}
 use Rattle.pd_shrink.proofs.MovingLemmas.{left_fit}
 
 -- what a loop over parts keeps: those that were moved and those that are left are all
@@ -38,34 +36,6 @@ module _ {T K : Type 0} (count : T → ℕ) (says : T → K) where
       let first : count x ≤ length given = omega arith in
       rw (take-append-le (count x) given more first, drop-append-le (count x) given more first)
       (ap (λ (parts : List (List Run)). take (count x) given ∷ parts) (split_more made y (drop (count x) given) more (parts_rest x made given number) size))
-
-  -- a part was added: with runs of its own, or without
-  pub adds_part : (moves : List Move) (part made : T) (mine : List Run) (parts parts' : List T) (before after : List Run)
-      (has : HasRuns before after (map (moved_mapping moves) (mappings_of_runs mine))) → count made ≡ length has.given → says made ≡ says part → parts' ≡ parts ++ made ∷ []
-      → AddsPart count says moves part mine parts before parts' after
-  adds_part moves part made mine parts parts' before after has number same added = record {
-    made = made;
-    given = has.given;
-    parts_are = added;
-    runs_are = has.runs_are;
-    number = number;
-    same = same;
-    moved = sym has.written;
-    joined = subst (λ (ms : List Mapping). joined_runs ms ≡ map spelled has.given) has.written has.joined;
-  }
-
-  pub adds_use : (moves : List Move) (part : T) (mine : List Run) (parts parts' : List T) (before : List Run) → count part ≡ 0 → length mine ≡ count part → parts' ≡ parts ++ part ∷ []
-      → AddsPart count says moves part mine parts before parts' before
-  adds_use moves part mine parts parts' before none number added = record {
-    made = part;
-    given = [];
-    parts_are = added;
-    runs_are = sym (append-nil before);
-    number = none;
-    same = refl;
-    moved = rw (nil_from_length mine (number ∙ none)) refl;
-    joined = refl;
-  }
 
 module _ {T K : Type 0} (count : T → ℕ) (says : T → K) (moves : List Move) (all : List T) (all_runs : List Run) where
   -- one part more
@@ -106,20 +76,3 @@ module _ {T K : Type 0} (count : T → ℕ) (says : T → K) (moves : List Move)
       let now = rw there at is in
       let added = rw mine_is at adds in
       rw (later_is, add-one i) (moves_part (get_or all i d) (drop (suc i) all) runs made made' given given' now added)
-
-  -- none yet, and all of them
-  pub parts_begun : sum_by count all ≡ length all_runs → AllByRecursion FitsRun all_runs → MovesParts count says moves all all_runs all all_runs [] []
-  parts_begun number fits = record { same = refl; moved = refl; joined = tt; number = refl; left = number; fits = fits }
-
-  pub parts_all : (i : ℕ) (runs : List Run) (made : List T) (given : List Run) → length all ≤ i → MovesParts count says moves all all_runs (drop i all) runs made given
-      → ArePartsMoved count says moves all all_runs made given
-  parts_all i runs made given done is =
-      let none = drop_all i all done in
-      let same = rw none at is.same in
-      let moved = rw none at is.moved in
-      record {
-        same = sym (append-nil (map says made)) ∙ same;
-        moved = sym (append-nil (split_mappings count made given)) ∙ moved;
-        joined = is.joined;
-        number = is.number;
-      }

@@ -25,9 +25,8 @@ use Rattle.pd_salvage.specs.declared.saved_shape.ShapedDevice.{ShapedDevice}
 use Rattle.pd_salvage.specs.SavedShape.{HeldShape, IsPartJoined, IsSavedShape, device_parts, held, held_shape, leaf_parts, piece_parts, runs_of_piece, runs_of_pieces}
 use Rattle.pd_restore.proofs.ShapeNeedLemmas.{take_front}
 use Rattle.pd_restore.proofs.ShapeTextLemmas.{leaves_have}
-use Rattle.pd_shrink.specs.declared.moving_shapes.MovedLeaves.{MovedLeaves}
-use Rattle.pd_shrink.specs.declared.moving_shapes.MovedPieces.{MovedPieces}
-use Rattle.pd_shrink.specs.Moving.{AreLeavesMoved, AreMovesFrom, AreMovesOf, ArePiecesMoved, FitsRun, entries_of_leaf, head_to, leaf_of_piece, moved_mappings, runs_of_leaf, split_mappings}
+use Rattle.pd_shrink.specs.declared.moving.Moved.{Moved}
+use Rattle.pd_shrink.specs.Moving.{AreMoved, AreMovesFrom, AreMovesOf, FitsRun, entries_of_leaf, head_to, leaf_of_piece, moved_mappings, runs_of_leaf, split_mappings}
 use Rattle.pd_shrink.proofs.MovesLemmas.{moves_are_ordered, part_fits}
 use Rattle.pd_shrink.proofs.ShapeParts.{devices_are, devices_joined, devices_moved, leaves_are, leaves_count, leaves_counted, leaves_joined, pieces_are, pieces_by, pieces_joined, pieces_moved, sizes, sizes_stay}
 
@@ -102,25 +101,26 @@ module _ (saved : HeldShape) (sound : IsSavedShape saved) where
     shape_moves_ordered = moves_are_ordered (pool_of (held_shape saved)) sound.lawful end moves are
 
     -- the moved leaves, pieces and runs are those of the smaller shape
-    module _ (old : SavedHead) (moved : MovedLeaves) (pieced : MovedPieces) (devices : List ShapedDevice) (head_is : old ≡ head_to saved.head end) (devices_are' : devices ≡ saved.devices)
-        (leaves : AreLeavesMoved moves saved.leaves saved.leaf_runs moved) (pieces : ArePiecesMoved moves saved.pieces saved.runs pieced) where
+    module _ (old : SavedHead) (moved : Moved SavedLeaf) (pieced : Moved SavedPiece) (devices : List ShapedDevice) (head_is : old ≡ head_to saved.head end) (devices_are' : devices ≡ saved.devices)
+        (leaves : AreMoved runs_of_leaf entries_of_leaf moves saved.leaves saved.leaf_runs moved.parts.items moved.runs)
+        (pieces : AreMoved runs_of_piece leaf_of_piece moves saved.pieces saved.runs pieced.parts.items pieced.runs) where
       abbrev after : HeldShape
-      after = held old moved.leaves.items moved.runs devices pieced.pieces.items pieced.runs
+      after = held old moved.parts.items moved.runs devices pieced.parts.items pieced.runs
 
-      leaves_after : map mappings_of_runs (leaf_parts moved.leaves.items moved.runs) ≡ moved_mappings moves (map mappings_of_runs (leaf_parts saved.leaves saved.leaf_runs))
-      leaves_after = leaves_are moved.leaves.items moved.runs ∙ (leaves.moved ∙ ap (moved_mappings moves) (sym (leaves_are saved.leaves saved.leaf_runs)))
+      leaves_after : map mappings_of_runs (leaf_parts moved.parts.items moved.runs) ≡ moved_mappings moves (map mappings_of_runs (leaf_parts saved.leaves saved.leaf_runs))
+      leaves_after = leaves_are moved.parts.items moved.runs ∙ (leaves.moved ∙ ap (moved_mappings moves) (sym (leaves_are saved.leaves saved.leaf_runs)))
 
-      pieces_after : map piece_of_part (piece_parts pieced.pieces.items pieced.runs) ≡ map (moved_piece moves) (map piece_of_part (piece_parts saved.pieces saved.runs))
+      pieces_after : map piece_of_part (piece_parts pieced.parts.items pieced.runs) ≡ map (moved_piece moves) (map piece_of_part (piece_parts saved.pieces saved.runs))
       pieces_after =
-          pieces_are pieced.pieces.items pieced.runs
+          pieces_are pieced.parts.items pieced.runs
           ∙ (ap₂ pieces_by pieces.same pieces.moved
           ∙ (pieces_moved moves (map leaf_of_piece saved.pieces) (split_mappings runs_of_piece saved.pieces saved.runs) ∙ ap (map (moved_piece moves)) (sym (pieces_are saved.pieces saved.runs))))
 
-      devices_after : map device_of_part (device_parts devices pieced.pieces.items pieced.runs) ≡ map (moved_shape_device moves) (map device_of_part (device_parts saved.devices saved.pieces saved.runs))
+      devices_after : map device_of_part (device_parts devices pieced.parts.items pieced.runs) ≡ map (moved_shape_device moves) (map device_of_part (device_parts saved.devices saved.pieces saved.runs))
       devices_after =
-          ap (λ (ds : List ShapedDevice). map device_of_part (device_parts ds pieced.pieces.items pieced.runs)) devices_are'
-          ∙ (ap (map device_of_part) (devices_are saved.devices pieced.pieces.items pieced.runs)
-          ∙ (devices_moved moves saved.devices (piece_parts saved.pieces saved.runs) (piece_parts pieced.pieces.items pieced.runs) pieces_after
+          ap (λ (ds : List ShapedDevice). map device_of_part (device_parts ds pieced.parts.items pieced.runs)) devices_are'
+          ∙ (ap (map device_of_part) (devices_are saved.devices pieced.parts.items pieced.runs)
+          ∙ (devices_moved moves saved.devices (piece_parts saved.pieces saved.runs) (piece_parts pieced.parts.items pieced.runs) pieces_after
           ∙ ap (λ (parts : List SharedPart). map (moved_shape_device moves) (map device_of_part parts)) (sym (devices_are saved.devices saved.pieces saved.runs))))
 
       -- a shape of this head
@@ -138,7 +138,7 @@ module _ (saved : HeldShape) (sound : IsSavedShape saved) where
       pub shape_after : held_shape after ≡ moved_shape (held_shape saved) end moves
       unfolding held_shape moved_shape
       shape_after =
-          ap (λ (head : SavedHead). shape_with head (map mappings_of_runs (leaf_parts moved.leaves.items moved.runs)) (map device_of_part (device_parts devices pieced.pieces.items pieced.runs))) head_is
+          ap (λ (head : SavedHead). shape_with head (map mappings_of_runs (leaf_parts moved.parts.items moved.runs)) (map device_of_part (device_parts devices pieced.parts.items pieced.runs))) head_is
           ∙ ap₂ (shape_with (head_to saved.head end)) leaves_after devices_after
 
       pub shape_sound : ((w : ThinShape) (end : ℕ) (free : List ℕ) → IsLawfulShape w → IsMoving (pool_of w) end free → IsLawfulShape (moved_shape w end (moves_to (sources (pool_of w) end) free)))
@@ -148,22 +148,22 @@ module _ (saved : HeldShape) (sound : IsSavedShape saved) where
           let lawful = law w end are.free (record { shape = sound.shape; pool = sound.lawful }) are.moving in
           let here : IsLawfulShape (held_shape after) =
           subst IsLawfulShape (sym shape_after) (subst (λ (xs : List Move). IsLawfulShape (moved_shape w end xs)) (sym are.are) lawful) in
-          let counted : map entries_of_leaf moved.leaves.items ≡ sizes (split_mappings runs_of_leaf moved.leaves.items moved.runs) =
+          let counted : map entries_of_leaf moved.parts.items ≡ sizes (split_mappings runs_of_leaf moved.parts.items moved.runs) =
           leaves.same
           ∙ (leaves_count saved.leaves saved.leaf_runs sound.counted
           ∙ (sym (sizes_stay moves (split_mappings runs_of_leaf saved.leaves saved.leaf_runs)) ∙ ap sizes (sym leaves.moved))) in
           record {
             shape = here.shape;
             lawful = here.pool;
-            counted = leaves_counted moved.leaves.items moved.runs counted;
-            leaves_joined = leaves_joined moved.leaves.items moved.runs leaves.joined;
+            counted = leaves_counted moved.parts.items moved.runs counted;
+            leaves_joined = leaves_joined moved.parts.items moved.runs leaves.joined;
             joined =
-                subst (AllByRecursion IsPartJoined) (sym (devices_are devices pieced.pieces.items pieced.runs))
-                (devices_joined devices (piece_parts pieced.pieces.items pieced.runs) (pieces_joined pieced.pieces.items pieced.runs pieces.joined));
+                subst (AllByRecursion IsPartJoined) (sym (devices_are devices pieced.parts.items pieced.runs))
+                (devices_joined devices (piece_parts pieced.parts.items pieced.runs) (pieces_joined pieced.parts.items pieced.runs pieces.joined));
             leaf_number = leaves.number;
             piece_number =
                 ap pieces_of devices_are'
                 ∙ (sound.piece_number
-                ∙ (sym (length-map saved.pieces leaf_of_piece) ∙ (ap (λ (xs : List (Option ℕ)). length xs) (sym pieces.same) ∙ length-map pieced.pieces.items leaf_of_piece)));
+                ∙ (sym (length-map saved.pieces leaf_of_piece) ∙ (ap (λ (xs : List (Option ℕ)). length xs) (sym pieces.same) ∙ length-map pieced.parts.items leaf_of_piece)));
             number = pieces.number;
           }

@@ -1,5 +1,5 @@
 -- The superblock of a pool without faults, and of one that breaks no rule.
-use Rattle.std.proofs.Common.{◌≡◌, ℕ, ◌^◌, ◌≤◌, List, [], ◌∷◌, length, subst, sym, arith}
+use Rattle.std.proofs.Common.{◌≡◌, ℕ, ◌≤◌, List, [], ◌∷◌, length, subst, sym, arith}
 use Rattle.pd_kinds.specs.declared.kind.Kind.TheVariants.{Thin}
 use Rattle.pd_kinds.specs.declared.kind.Stage.TheVariants.{Walk, Order, Whole, Counts}
 use Rattle.pd_kinds.specs.Edge.{Edge, optional_edge}

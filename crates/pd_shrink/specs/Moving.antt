@@ -1,8 +1,8 @@
 -- The pool in memory whose data blocks were moved.
 use Rattle.std.specs.Prelude.{◌≡◌, ℕ, ◌+◌, ◌^◌, ◌≤◌, ◌<◌, List, [], ◌∷◌, ◌++◌, length, map, take, drop, sum_by, Option, Some, None}
 use Rattle.std.specs.List.{AllByRecursion}
-use Rattle.pd_kinds.specs.Meaning.{Mapping, ThinPool}
-use Rattle.pd_answers.specs.MovedPool.{Move, moved_device, moved_mapping, moves_to, sources}
+use Rattle.pd_kinds.specs.Meaning.{Mapping, ThinDevice, ThinPool}
+use Rattle.pd_answers.specs.MovedPool.{Move, moved_mapping, moves_to, sources}
 use Rattle.pd_changed.specs.Moving.{IsMoving}
 use Rattle.pd_spells.specs.ThinText.{device_of_part, joined_runs}
 use Rattle.pd_thin_meaning.specs.declared.joined.Run.{Run}
@@ -13,11 +13,7 @@ use Rattle.pd_salvage.specs.declared.saved_shape.SavedLeaf.{SavedLeaf}
 use Rattle.pd_salvage.specs.declared.saved_shape.SavedPiece.{SavedPiece}
 use Rattle.pd_salvage.specs.declared.saved_shape.SavedPiece.TheVariants.{Own, Shared}
 use Rattle.pd_salvage.specs.Gather.{mappings_of_runs}
-use Rattle.pd_salvage.specs.Saved.{IsJoined, part_of, parts_of, runs_of_devices}
-use Rattle.pd_salvage.specs.SavedShape.{runs_of_piece}
-use Rattle.pd_shrink.specs.declared.moving.Moved.{Moved}
-use Rattle.pd_shrink.specs.declared.moving_shapes.MovedLeaves.{MovedLeaves}
-use Rattle.pd_shrink.specs.declared.moving_shapes.MovedPieces.{MovedPieces}
+use Rattle.pd_salvage.specs.Saved.{part_of}
 
 -- the moves of a pool to a new end: its sources to the first free blocks, of which there are enough
 pub record AreMovesOf (m : ThinPool) (end : ℕ) (moves : List Move) : Type 0 where
@@ -39,22 +35,6 @@ AreMovesFrom top least (x ∷ moves) = IsMoveFrom top least x × AreMovesFrom to
 pub record FitsRun (r : Run) : Type 0 where
   pub virtual : 1 ≤ r.length → r.virt + r.length ≤ 2 ^ 64
   pub target : 1 ≤ r.length → r.target + r.length ≤ 2 ^ 40
-
--- a device is added with its runs, as long as can be, whose data blocks were moved
-pub record AddsMoved (moves : List Move) (device : SavedDevice) (runs : List Run) (old new : Moved) : Type 0 where
-  pub made : SavedDevice
-  pub given : List Run
-  pub devices_are : new.devices.items ≡ old.devices.items ++ made ∷ []
-  pub runs_are : new.runs ≡ old.runs ++ given
-  pub number : made.runs ≡ length given
-  pub same : device_of_part (part_of made given) ≡ moved_device moves (device_of_part (part_of device runs))
-  pub joined : IsJoined (part_of made given)
-
--- the devices with their runs, as long as can be, whose data blocks were moved
-pub record AreMoved (moves : List Move) (devices : List SavedDevice) (runs : List Run) (moved : Moved) : Type 0 where
-  pub same : map device_of_part (parts_of moved.devices.items moved.runs) ≡ map (moved_device moves) (map device_of_part (parts_of devices runs))
-  pub joined : AllByRecursion IsJoined (parts_of moved.devices.items moved.runs)
-  pub number : runs_of_devices moved.devices.items ≡ length moved.runs
 
 -- the words of a superblock with so many data blocks
 abbrev pub head_to : SavedHead → ℕ → SavedHead
@@ -87,11 +67,18 @@ pub record AddsPart {T K : Type 0} (count : T → ℕ) (says : T → K) (moves :
   pub joined : AreJoined given
 
 -- all parts with their runs, as long as can be, whose data blocks were moved; what else they say is kept
-pub record ArePartsMoved {T K : Type 0} (count : T → ℕ) (says : T → K) (moves : List Move) (parts : List T) (runs : List Run) (parts' : List T) (runs' : List Run) : Type 0 where
+pub record AreMoved {T K : Type 0} (count : T → ℕ) (says : T → K) (moves : List Move) (parts : List T) (runs : List Run) (parts' : List T) (runs' : List Run) : Type 0 where
   pub same : map says parts' ≡ map says parts
   pub moved : split_mappings count parts' runs' ≡ moved_mappings moves (split_mappings count parts runs)
   pub joined : AllByRecursion AreJoined (split_runs count parts' runs')
   pub number : sum_by count parts' ≡ length runs'
+
+-- how many runs a device has, and what else it says
+abbrev pub runs_of_device : SavedDevice → ℕ
+runs_of_device d = d.runs
+
+abbrev pub bare_device : SavedDevice → ThinDevice
+bare_device d = device_of_part (part_of d [])
 
 -- how many runs and mappings a shared leaf has
 abbrev pub runs_of_leaf : SavedLeaf → ℕ
@@ -104,16 +91,3 @@ entries_of_leaf leaf = leaf.entries
 abbrev pub leaf_of_piece : SavedPiece → Option ℕ
 leaf_of_piece (Own runs) = None
 leaf_of_piece (Shared number) = Some number
-
--- the shared leaves and the pieces of a shape, one of them or all, were moved
-abbrev pub AddsLeaf : List Move → SavedLeaf → List Run → MovedLeaves → MovedLeaves → Type 0
-AddsLeaf moves leaf runs old new = AddsPart runs_of_leaf entries_of_leaf moves leaf runs old.leaves.items old.runs new.leaves.items new.runs
-
-abbrev pub AddsPiece : List Move → SavedPiece → List Run → MovedPieces → MovedPieces → Type 0
-AddsPiece moves piece runs old new = AddsPart runs_of_piece leaf_of_piece moves piece runs old.pieces.items old.runs new.pieces.items new.runs
-
-abbrev pub AreLeavesMoved : List Move → List SavedLeaf → List Run → MovedLeaves → Type 0
-AreLeavesMoved moves leaves runs moved = ArePartsMoved runs_of_leaf entries_of_leaf moves leaves runs moved.leaves.items moved.runs
-
-abbrev pub ArePiecesMoved : List Move → List SavedPiece → List Run → MovedPieces → Type 0
-ArePiecesMoved moves pieces runs moved = ArePartsMoved runs_of_piece leaf_of_piece moves pieces runs moved.pieces.items moved.runs

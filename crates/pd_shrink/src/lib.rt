@@ -11,6 +11,7 @@ mod making;
 mod moves;
 mod moving;
 mod moving_shapes;
+mod parts;
 mod places;
 mod plan;
 mod room;

@@ -1,29 +1,30 @@
 //! The pool in memory whose data blocks were moved.
 
-ghost use Rattle.std.specs.Prelude.{◌≡◌, ◌-◌, ◌^◌, min, length, map, take, drop, IfOk, OnOk};
+ghost use Rattle.std.specs.Prelude.{◌≡◌, ◌-◌, ◌^◌, min, length, map, take, drop, sum_by, IfOk, OnOk};
 ghost use Rattle.std.specs.List.{AllByRecursion};
 ghost use Rattle.pd_answers.specs.MovedPool.{moved_mapping, moved_pool};
 ghost use Rattle.pd_spells.specs.ThinText.{mappings_of};
 ghost use Rattle.pd_thin_meaning.specs.Joined.{spelled};
 ghost use Rattle.pd_runs.specs.Places.{runs_from};
 ghost use Rattle.pd_salvage.specs.Gather.{mappings_of_runs, HasRuns, Takes};
-ghost use Rattle.pd_salvage.specs.Saved.{pool_of, runs_of_devices};
+ghost use Rattle.pd_salvage.specs.Saved.{pool_of};
 ghost use Rattle.pd_shrink.specs.Moves.{moves_in};
-ghost use Rattle.pd_shrink.specs.Moving.{AddsMoved, AreMoved, AreMovesFrom, AreMovesOf, FitsRun, head_to};
+ghost use Rattle.pd_shrink.specs.Moving.{AddsPart, AreMoved, AreMovesFrom, AreMovesOf, FitsRun, head_to};
 
 use crate::moves::MovedBlock;
+use crate::parts::Part;
 use crate::places::place_of;
 use pd_changed::moved_pool_is_lawful;
 use pd_runs::{PackedRuns, RunPlace};
-use pd_salvage::{Joining, Salvage, SavedDevice, SavedHead};
+use pd_salvage::{Joining, Salvage, SavedHead};
 use pd_thin_meaning::Run;
 use std::alloc::{AllocError, Global};
 
-/// Devices and their runs, whose data blocks were moved.
+/// Parts and the runs of all of them, whose data blocks were moved.
 #[derive(Drop)]
-struct Moved {
-    devices: Vec<SavedDevice>,
-    runs: PackedRuns,
+pub(crate) struct Moved<T> {
+    pub(crate) parts: Vec<T>,
+    pub(crate) runs: PackedRuns,
 }
 
 /// The pool with its data blocks moved: so many data blocks, and each mapping names its block's new place. Its runs
@@ -41,9 +42,8 @@ pub fn move_pool(
 {
     moved_pool_is_lawful();
     let head = head_to(saved.head(), end);
-    let moved = move_devices(alloc, saved.devices(), saved.runs(), end, moves)?;
-    let Moved { devices, runs } = moved;
-    Ok(Salvage::of_parts(head, devices, runs))
+    let moved = move_all(alloc, saved.devices(), saved.runs(), end, moves)?;
+    Ok(Salvage::of_parts(head, moved.parts, moved.runs))
 }
 
 /// What the superblock says, with so many data blocks.
@@ -59,58 +59,55 @@ pub(crate) fn head_to(old: &SavedHead, end: u64) -> SavedHead
     }
 }
 
-/// The devices and their runs, whose data blocks are moved.
-fn move_devices(
+/// The parts and their runs, whose data blocks are moved.
+pub(crate) fn move_all<T: Part>(
     alloc: Global,
-    devices: &[SavedDevice],
+    parts: &[T],
     runs: &PackedRuns,
     end: u64,
     moves: &[MovedBlock],
-) -> Result<Moved, AllocError>
+) -> Result<Moved<T>, AllocError>
     requires ordered { AreMovesFrom (2 ^ 40) end (moves_in moves.now) }
-    requires number { runs_of_devices devices.now ≡ length runs.now }
+    requires number { sum_by T.count parts.now ≡ length runs.now }
     requires fits { AllByRecursion FitsRun runs.now }
-    ensures { IfOk result (AreMoved (moves_in moves.now) devices.now runs.now) }
+    ensures { IfOk result (λ moved. AreMoved T.count T.says (moves_in moves.now) parts.now runs.now moved.parts.items moved.runs) }
 {
     let mut moved = Moved {
-        devices: Vec::new(alloc),
+        parts: Vec::new(alloc),
         runs: PackedRuns::new(alloc),
     };
     let mut place = runs.first();
-    for device in devices {
-        move_device(device, runs, &mut place, end, moves, &mut moved)?;
+    for part in parts {
+        move_part(part, runs, &mut place, end, moves, &mut moved)?;
     }
     Ok(moved)
 }
 
-/// Adds a device with its runs, whose data blocks are moved: those from the place on, which goes on behind them.
-fn move_device(
-    device: &SavedDevice,
+/// Adds a part with its runs, whose data blocks are moved: those from the place on, which goes on behind them.
+fn move_part<T: Part>(
+    part: &T,
     all: &PackedRuns,
     place: &mut RunPlace,
     end: u64,
     moves: &[MovedBlock],
-    moved: &mut Moved,
+    moved: &mut Moved<T>,
 ) -> Result<(), AllocError>
     requires ordered { AreMovesFrom (2 ^ 40) end (moves_in moves.now) }
     requires fits { AllByRecursion FitsRun (runs_from all.now place.old) }
-    ensures moved { OnOk result (AddsMoved (moves_in moves.now) device.now (take device.now.runs (runs_from all.now place.old)) moved.old moved.new) }
-    ensures behind { OnOk result (runs_from all.now place.new ≡ drop device.now.runs (runs_from all.now place.old)) }
+    ensures moved { OnOk result (AddsPart T.count T.says (moves_in moves.now) part.now (take (T.count part.now) (runs_from all.now place.old))
+        moved.old.parts.items moved.old.runs moved.new.parts.items moved.new.runs) }
+    ensures behind { OnOk result (runs_from all.now place.new ≡ drop (T.count part.now) (runs_from all.now place.old)) }
 {
     let first = moved.runs.len();
-    move_runs(all, place, device.runs, end, moves, &mut moved.runs)?;
+    move_runs(all, place, part.runs(), end, moves, &mut moved.runs)?;
     let runs = moved.runs.len() - first;
-    moved.devices.push(SavedDevice {
-        id: device.id,
-        details: device.details,
-        runs,
-    })?;
+    moved.parts.push(part.with_runs(runs).ok_or(AllocError)?)?;
     Ok(())
 }
 
 /// Adds so many runs from the place on, which goes on behind them. Their data blocks are moved, and they are as long as can
 /// be among themselves.
-pub(crate) fn move_runs(
+fn move_runs(
     all: &PackedRuns,
     place: &mut RunPlace,
     number: usize,

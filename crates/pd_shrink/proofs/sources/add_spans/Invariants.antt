@@ -1,4 +1,4 @@
-use Rattle.std.proofs.Common.{◌≡◌, ◌≤◌, ◌++◌, length, take, drop}
+use Rattle.std.proofs.Common.{◌≡◌, ◌++◌, take, drop}
 use Rattle.pd_runs.specs.Places.{runs_from}
 use Rattle.pd_shrink.specs.Spans.{spans_past}
 use Rattle.pd_shrink.proofs.sources.add_spans.Given as goal
