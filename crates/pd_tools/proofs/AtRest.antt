@@ -12,6 +12,7 @@ use Rattle.pd_answers.specs.Answer.{Objects, AreFresh}
 use Rattle.pd_answers.specs.Requests.{Request, check, passing_check, check_and_clear, query, restore, repair, search, repair_named, dry_search, repair_cache, generate, rehearse, writeback, shrink}
 use Rattle.pd_answers.specs.CacheRepairs as caches
 use Rattle.pd_answers.specs.NamedRepairs as named
+use Rattle.pd_answers.specs.Rehearsals as rehearsals
 use Rattle.pd_answers.specs.Repairs as repairs
 use Rattle.pd_answers.specs.Searches as searches
 use Rattle.pd_answers.specs.Shrinks as shrinks
@@ -33,7 +34,7 @@ use Rattle.pd_tools.proofs.FewReads.{unread}
 use Rattle.pd_tools.proofs.Clears.{clearing_at_rest}
 use Rattle.pd_tools.proofs.NamedRepairs.{dry_search_rests, named_rests}
 use Rattle.pd_tools.proofs.Queries.{query_at_rest}
-use Rattle.pd_tools.proofs.Rehearses.{rehearse_at_rest}
+use Rattle.pd_tools.proofs.Rehearses.{rehearse_rests}
 use Rattle.pd_tools.proofs.Repairs.{repair_rests, repair_statuses}
 use Rattle.pd_tools.proofs.Restores.{restore_at_rest}
 use Rattle.pd_tools.proofs.Searches.{search_rests}
@@ -81,7 +82,8 @@ at_rest (Some (repair shared from to)) before notes fresh verdicts =
     task_at_rest (repairs.repair shared from to) before notes (repair_rests (faults Thin Super) repair_statuses shared (repairs.saved_of shared) from to before (record before { notes = notes }) fresh (none_written before notes fresh))
 at_rest (Some (query asked file path)) before notes fresh verdicts = query_at_rest asked before.input.held
 at_rest (Some (generate number file)) before notes fresh verdicts = (tt, tt, tt)
-at_rest (Some (rehearse number path)) before notes fresh verdicts = rehearse_at_rest number path before notes fresh.output.2 (verdicts Thin 1) fresh.output.0
+at_rest (Some (rehearse number path)) before notes fresh verdicts =
+    task_at_rest (rehearsals.rehearse number path) before notes (rehearse_rests number path before (record before { notes = notes }) (verdicts Thin 1) fresh.output.2 (none_written before notes fresh))
 at_rest (Some (writeback metadata fast origin)) before notes fresh verdicts =
     task_at_rest (writebacks.writeback metadata fast origin) before notes (writeback_rests metadata fast origin before (record before { notes = notes }) fresh (none_written before notes fresh))
 at_rest (Some (shrink shared input output pool blocks)) before notes fresh verdicts =

@@ -1,12 +1,12 @@
 -- What the work of a repair from named roots comes to, and that of a dry run without a superblock, over plain variables.
 use Rattle.std.proofs.Common.{◌≡◌, ◌≢◌, inl, ℕ, Bool, true, false, IsTrue, List, [], ◌∷◌, length, Option, Some, None, IfSome, Result, Ok, Err, min, refl, sym, ap, ◌∙◌, subst}
 use Rattle.std.specs.Option.{option_map, option_map_or}
-use Rattle.std.specs.Prelude.{IfErr, IfOk}
+use Rattle.std.specs.Prelude.{IfErr}
 use Rattle.pd_kinds.specs.declared.fault.Fault.{Fault}
 use Rattle.pd_kinds.specs.declared.limits.TheConstants.{MAX_META_BLOCKS}
 use Rattle.pd_kinds.specs.declared.rules.Rules.{Rules}
 use Rattle.pd_kinds.specs.Layout.{graph_of}
-use Rattle.pd_kinds.specs.Objects.{DeviceState, SinkState, Rose}
+use Rattle.pd_kinds.specs.Objects.{DeviceState, SinkState}
 use Rattle.pd_kinds.specs.ThinSuper.{ThinFields}
 use Rattle.pd_laid.specs.FoundRoots.{lost_graph}
 use Rattle.pd_image.specs.Device.{KeepsPlace, OnlyReads}
@@ -23,7 +23,7 @@ use Rattle.pd_kept.specs.States.{looked_text}
 use Rattle.pd_kept.proofs.WeighingLemmas.{text_is}
 use Rattle.pd_repair.specs.declared.fault.RepairFault.{RepairFault}
 use Rattle.pd_repair.specs.declared.fault.RepairFault.TheVariants as fault
-use Rattle.pd_repair.specs.Repaired.{AnswersSuper, CountsRepair, HasSuper, IsRepairedBy, IsRepairedFromAs, NamesRules}
+use Rattle.pd_repair.specs.Repaired.{AnswersSuper, CountsRepair, HasSuper, IsRepairedFromAs, NamesRules}
 use Rattle.pd_salvage.specs.declared.fault.SalvageFault.{SalvageFault}
 use Rattle.pd_salvage.specs.declared.fault.SalvageFault.TheVariants as f
 use Rattle.pd_salvage.specs.Faults.{CountsSalvage}
@@ -33,8 +33,8 @@ use Rattle.pd_tools.specs.Opened.{AreOpened, Devices, IsOpened, devices_of}
 use Rattle.pd_tools.specs.Saved.{saved_by, saved_content}
 use Rattle.pd_tools.specs.Stop.{salvage_stop}
 use Rattle.pd_tools.specs.Task.{AreAlone, IsAtRest, IsDone, IsEnded, IsHalted, IsMeasured, Works}
-use Rattle.pd_tools.proofs.Queries.{one_told, two_told}
-use Rattle.pd_tools.proofs.Repairs.{AreRepairs, repair_rests, repair_works}
+use Rattle.pd_tools.proofs.Queries.{two_told}
+use Rattle.pd_tools.proofs.Repairs.{repair_rests, repair_works}
 use Rattle.pd_tools.proofs.Restores.{Image}
 use Rattle.pd_tools.proofs.Tasks.{halted_at_rest, read_alone, read_by}
 

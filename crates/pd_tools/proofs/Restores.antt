@@ -102,10 +102,10 @@ untouched_restored laid judged status old new synced same not_made = record {
 }
 
 -- the room of an output, and the text that is left
-pub room_in : Option Image → ℕ
+room_in : Option Image → ℕ
 room_in held = option_map_or (λ (image : Image). room_of (length image)) held 0
 
-pub room-told : (held : Option Image) → IfSome held (λ image. room_in held ≡ room_of (length image))
+room-told : (held : Option Image) → IfSome held (λ image. room_in held ≡ room_of (length image))
 unfolding room_in
 room-told None = tt
 room-told (Some image) = refl

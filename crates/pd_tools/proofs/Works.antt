@@ -1,8 +1,8 @@
 -- What the work of any request comes to, by how its objects stand at the end and by what was found.
-use Rattle.std.proofs.Common.{◌≡◌, ◌≢◌, inl, inr, ℕ, ◌≤◌, Bool, true, false, IsTrue, if◌then◌else◌, List, [], sym, ap, ◌∙◌, subst, arith, lit≤}
+use Rattle.std.proofs.Common.{◌≡◌, ◌≢◌, inl, inr, ℕ, ◌≤◌, Bool, true, false, IsTrue, if◌then◌else◌, List, [], sym, ap, subst, arith, lit≤}
 use Rattle.pd_kinds.specs.declared.kind.Kind.{Kind}
 use Rattle.pd_kinds.specs.declared.kind.Stage.{Stage}
-use Rattle.pd_kinds.specs.Objects.{SinkState, Appends, AppendsFront}
+use Rattle.pd_kinds.specs.Objects.{Appends, AppendsFront}
 use Rattle.pd_kinds.specs.Stages.{CanWantMemory}
 use Rattle.pd_kinds.proofs.AppendLemmas.{appends_none, front_none}
 use Rattle.pd_answers.specs.Answer.{Answer, Objects, IsOpen}
@@ -34,10 +34,6 @@ not_done before after status some unput (inr put) = put unput
 pub still_done : (before after : Objects) (status : ℕ) → IsWorkDone before after 6 → IsWorkDone before after status
 still_done before after status (inl zero) = absurd (omega arith)
 still_done before after status (inr put) = inr put
-
--- a sink that was attached, or couldn't be, was touched
-pub is_touched : (old new : SinkState) → old.access ≡ 0 → new.access ≢ 0 → new ≢ old
-is_touched old new fresh some same = some (ap (λ (s : SinkState). s.access) same ∙ fresh)
 
 -- how the objects stand, whatever was found
 pub record Stands (terms : Terms) (before after : Objects) : Type 0 where

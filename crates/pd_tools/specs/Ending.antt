@@ -5,6 +5,7 @@ use Rattle.pd_kinds.specs.Objects.{SinkState}
 use Rattle.pd_kinds.specs.Report.{report_of}
 use Rattle.pd_kinds.specs.RuleSet.{has_rule}
 use Rattle.pd_spells.specs.Lines.{no_room_line, refusal_line, reported_lines}
+use Rattle.pd_answers.specs.Generated.{rehearsal_line}
 use Rattle.pd_answers.specs.SearchLines.{no_roots_line}
 use Rattle.pd_answers.specs.Writebacks.{block_size_line}
 use Rattle.pd_restoring.specs.declared.fault.RestoreFault.{RestoreFault}
@@ -13,6 +14,7 @@ use Rattle.pd_repair.specs.declared.fault.RepairFault.{RepairFault}
 use Rattle.pd_repair.specs.declared.fault.RepairFault.TheVariants as f
 use Rattle.pd_rehearse.specs.declared.fault.RehearseFault.{RehearseFault}
 use Rattle.pd_rehearse.specs.declared.fault.RehearseFault.TheVariants as q
+use Rattle.pd_rehearse.specs.declared.run.Rehearsal.{Rehearsal}
 use Rattle.pd_writeback.specs.declared.fault.WriteFault.{WriteFault}
 use Rattle.pd_writeback.specs.declared.fault.WriteFault.TheVariants as w
 use Rattle.pd_shrink.specs.declared.fault.ShrinkFault.{ShrinkFault}
@@ -20,7 +22,7 @@ use Rattle.pd_shrink.specs.declared.fault.ShrinkFault.TheVariants as s
 use Rattle.pd_tools.specs.declared.ending.Ending.{Ending}
 use Rattle.pd_tools.specs.declared.ending.Ending.TheVariants.{Done, Faulty, Refused, NoRoom, BlockSize, NoRoots}
 use Rattle.pd_tools.specs.declared.ending.Outcome.{Outcome}
-use Rattle.pd_tools.specs.declared.ending.Outcome.TheVariants.{Ended}
+use Rattle.pd_tools.specs.declared.ending.Outcome.TheVariants.{Line, Ended}
 use Rattle.pd_tools.specs.declared.stop.Stop.{Stop}
 use Rattle.pd_tools.specs.declared.stop.Stop.TheVariants.{Device, Stream, Memory}
 use Rattle.pd_tools.specs.Notes.{PutsLine}
@@ -71,12 +73,13 @@ repair_ended (Err f.Output) = Err Device
 repair_ended (Err (f.NoSuper rules)) = Ok (Ended (Faulty (report_of (faults_at 0 (has_rule rules)))))
 repair_ended (Err (f.NoRoom need blocks)) = Ok (Ended (NoRoom need blocks))
 
--- how a rehearsal ended that has no numbers
-abbrev pub rehearsal_ended : RehearseFault → Result Ending Stop
-rehearsal_ended q.Memory = Err Memory
-rehearsal_ended q.Device = Err Device
-rehearsal_ended (q.NoRoom need blocks) = Ok (NoRoom need blocks)
-rehearsal_ended (q.Faulty report) = Ok (Faulty report)
+-- how a rehearsal ended
+abbrev pub rehearsal_ended : ℕ → Result Rehearsal RehearseFault → Result Outcome Stop
+rehearsal_ended number (Ok rehearsal) = Ok (Line (rehearsal_line number rehearsal.used rehearsal.counts.mappings rehearsal.counts.lines))
+rehearsal_ended number (Err q.Memory) = Err Memory
+rehearsal_ended number (Err q.Device) = Err Device
+rehearsal_ended number (Err (q.NoRoom need blocks)) = Ok (Ended (NoRoom need blocks))
+rehearsal_ended number (Err (q.Faulty report)) = Ok (Ended (Faulty report))
 
 -- how a writeback ended of which no plan was made
 abbrev pub plan_ended : WriteFault → Result Outcome Stop

@@ -7,7 +7,6 @@ pub mod Work
 pub mod Opened
 pub mod Writeback
 pub mod Query
-pub mod Rehearse
 pub mod Saved
 pub mod CacheRepair
 pub mod Search

@@ -91,9 +91,7 @@ pub fn read_report<A: Device>(
     ensures reads { IfSome (A.state input.old).held (λ image. ReadsFew kind until image ((A.state input.old).reads + 1) (A.state input.new).reads) }
     ensures stopped { IfErr result (IsUnread kind until (A.state input.old) (A.state input.new)) }
 {
-    if input.attach(image, write).is_err() {
-        return Err(Stop::Device);
-    }
+    input.attach(image, write).map_err(|_| Stop::Device)?;
     check_attached(alloc, kind, until, input)
 }
 

@@ -51,12 +51,9 @@ impl Task for DrySearch<'_> {
         output: &mut B,
         third: &mut C,
     ) -> Result<Outcome, Stop> {
-        match look(alloc, input, &self.given, self.named) {
-            Ok(found) => match found {
-                Some(looked) => Ok(Outcome::Told(looked)),
-                None => Ok(Outcome::Ended(Ending::NoRoots)),
-            },
-            Err(fault) => Err(Stop::from(fault)),
+        match look(alloc, input, &self.given, self.named)? {
+            Some(looked) => Ok(Outcome::Told(looked)),
+            None => Ok(Outcome::Ended(Ending::NoRoots)),
         }
     }
 }

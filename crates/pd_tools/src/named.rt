@@ -54,10 +54,8 @@ impl Task for NamedRepair<'_> {
         output: &mut B,
         third: &mut C,
     ) -> Result<Outcome, Stop> {
-        match named_super(alloc, input, &self.given, &self.named) {
-            Ok(s) => ended_of(repair_lost(alloc, self.shared, input, output, &s)),
-            Err(fault) => Err(Stop::from(fault)),
-        }
+        let s = named_super(alloc, input, &self.given, &self.named)?;
+        ended_of(repair_lost(alloc, self.shared, input, output, &s))
     }
 }
 

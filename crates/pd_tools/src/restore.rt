@@ -96,13 +96,8 @@ fn attach_both<S: Source, B: Device>(
     ensures attached { OnOk result (AreAttached text.now image.now (S.state source.old) (S.state source.new) (B.state output.old) (B.state output.new)) }
     ensures unattached { IfErr result (AreUnattached text.now image.now (S.state source.old) (S.state source.new) (B.state output.old) (B.state output.new)) }
 {
-    match source.attach(text) {
-        Ok(()) => match output.attach(image, true) {
-            Ok(()) => Ok(()),
-            Err(_) => Err(Stop::Device),
-        },
-        Err(_) => Err(Stop::Stream),
-    }
+    source.attach(text).map_err(|_| Stop::Stream)?;
+    output.attach(image, true).map_err(|_| Stop::Device)
 }
 
 /// Restores an image from a text, which are both attached.

@@ -17,7 +17,7 @@ use crate::generate::run_generate;
 use crate::named::NamedRepair;
 use crate::notes::{USAGE_LINE, put_line};
 use crate::query::run_query;
-use crate::rehearse::run_rehearse;
+use crate::rehearse::Rehearsing;
 use crate::repair::Repair;
 use crate::restore::{run_restore, texts_have_verdicts};
 use crate::search::Search;
@@ -255,14 +255,13 @@ fn run_request<S: Source, K: Sink, E: Sink, A: Device, B: Device, C: Device>(
             };
             run_task(alloc, &task, out, notes, input, output, third)
         }
-        Request::Rehearse { number, image } => run_rehearse(
-            alloc,
-            number,
-            image.word_in(words),
-            out,
-            notes,
-            output,
-        ),
+        Request::Rehearse { number, image } => {
+            let task = Rehearsing {
+                number,
+                image: image.word_in(words),
+            };
+            run_task(alloc, &task, out, notes, input, output, third)
+        }
         // A query was answered above.
         Request::Dump { .. }
         | Request::DumpShared { .. }

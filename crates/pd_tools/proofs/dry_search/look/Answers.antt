@@ -1,4 +1,3 @@
-use Rattle.std.proofs.Common.{IfSome}
 use Rattle.pd_words.specs.Words.{given_as, named_as}
 use Rattle.pd_tools.proofs.Queries.{two_told}
 use Rattle.pd_tools.proofs.NamedRepairs.{kept_told}

@@ -168,7 +168,7 @@ returns-in-Rehearse g c others =
     let w = c.in-Rehearse in
     rw w.is (rehearsed_as_asked w.number (word_of (map string_bytes c.args.words.now) w.image) c.word_in-in-Rehearse.result.now _ _ _ _
     c.word_in-in-Rehearse.ensures
-    (c.run_rehearse.ensures (record others { source = g.S.Source.state c.args.source.now; input = g.A.Device.state c.args.input.now; third = g.C.Device.state c.args.third.now })))
+    (c.run_task-in-Rehearse.ensures (record others { source = g.S.Source.state c.args.source.now })))
 
 -- so with the devices of a writeback
 written_back_as_asked : (metadata fast origin given_metadata given_fast given_origin : List ℕ) (attached : SinkState) (before after : Objects) (status : ℕ)

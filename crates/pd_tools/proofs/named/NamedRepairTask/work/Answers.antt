@@ -1,4 +1,5 @@
 use Rattle.std.proofs.Common.{◌≡◌, ℕ, List, [], Option, Some, None, IfSome, refl}
+use Rattle.std.proofs.lemmas.Result.{err_from_is_err_and}
 use Rattle.pd_kinds.specs.declared.fault.Fault.{Fault}
 use Rattle.pd_answers.specs.NamedRepairs.{repair_named}
 use Rattle.pd_words.specs.Words.{given_as, named_as}
@@ -7,8 +8,8 @@ use Rattle.pd_tools.proofs.NamedRepairs.{halts_unread, named_rests, named_works}
 use Rattle.pd_tools.proofs.Tasks.{still_opened}
 use Rattle.pd_tools.proofs.named.NamedRepairTask.work.Goals as goal
 
-pub returns-in-Ok-clause-works : goal.returns-in-Ok-clause-works
-returns-in-Ok-clause-works g c others notes first fresh was =
+pub returns-clause-works : goal.returns-clause-works
+returns-clause-works g c others notes first fresh was =
     let kept = c.named_super.ensures.kept in
     let self = c.args.self.now in
     rw c.ended_of.ensures
@@ -16,22 +17,23 @@ returns-in-Ok-clause-works g c others notes first fresh was =
     (record others { notes = notes; input = g.A.Device.state c.repair_lost.new.input; output = g.B.Device.state c.repair_lost.new.output; third = g.C.Device.state c.args.third.now })
     (devices (g.A.Device.state c.named_super.new.input) (g.B.Device.state c.args.output.now) (g.C.Device.state c.args.third.now)) fresh
     (record {
-      input = still_opened was.input kept.access kept.path (record { held = kept.held; history = kept.history }) c.in-Ok.ensures.faults;
+      input = still_opened was.input kept.access kept.path (record { held = kept.held; history = kept.history }) c.in_ok-s.ensures.faults;
       output = was.output;
       third = was.third;
     })
-    (g.met.B.Device.measured c.args.output.now) c.repair_lost.ensures.place c.in-Ok.s (rw kept.held c.in-Ok.ensures.named)
+    (g.met.B.Device.measured c.args.output.now) c.repair_lost.ensures.place c.in_ok-s.s (rw kept.held c.in_ok-s.ensures.named)
     c.repair_lost.result c.repair_lost.ensures.repaired c.repair_lost.ensures.sound c.repair_lost.ensures.causes)
 
-pub returns-in-Err-clause-works : goal.returns-in-Err-clause-works
-returns-in-Err-clause-works g c others notes first fresh was =
+pub returns-in_err-s-clause-works : goal.returns-in_err-s-clause-works
+returns-in_err-s-clause-works g c others notes first fresh was =
     let self = c.args.self.now in
-    rw c.from.ensures
+    let stopped = err_from_is_err_and c.from_residual.result c.from_residual.ensures.1 in
+    rw (stopped.1, stopped.2)
     (halts_unread (repair_named self.shared self.from.now self.to.now (given_as self.given) (named_as self.named)) self.from.now (record others { input = first.input; output = first.output; third = first.third })
     (devices (g.A.Device.state c.args.input.now) (g.B.Device.state c.args.output.now) (g.C.Device.state c.args.third.now)) notes (g.A.Device.state c.named_super.new.input) was was.input
     (λ _. g.met.B.Device.measured c.args.output.now) (λ _. g.met.C.Device.measured c.args.third.now) c.named_super.ensures.kept
     (named_rests self.shared (given_as self.given) (named_as self.named) self.from.now self.to.now _ _ fresh) refl refl
-    (memory (record others { input = first.input; output = first.output; third = first.third }).input.held) c.in-Err.fault c.in-Err.ensures.faults)
+    (memory (record others { input = first.input; output = first.output; third = first.third }).input.held) c.in_err-s.field-0.0 c.in_err-s.ensures.faults)
   where
     memory : (held : Option (List (List ℕ))) → IfSome held (λ image. ◌≡◌ {A = List Fault} [] [])
     memory None = tt
