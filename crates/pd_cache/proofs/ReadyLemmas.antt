@@ -8,7 +8,7 @@ use Rattle.pd_kinds.specs.Graph.{Graph, block_at, nodes}
 use Rattle.pd_kinds.specs.Layout.{graph_of}
 use Rattle.pd_kinds.specs.Lawful.{IsLawful}
 use Rattle.pd_kinds.specs.Stages.{IsReached, cache_checked, checked_of}
-use Rattle.pd_kinds.specs.Whole.{WholeTest, cache_arrays, cache_whole}
+use Rattle.pd_kinds.specs.Whole.{cache_arrays, cache_whole}
 use Rattle.pd_laws.specs.InOrder.{AreInOrder}
 use Rattle.pd_graph.specs.declared.audit.Audit.{Audit}
 use Rattle.pd_graph.specs.Audit.{blocks_of, roles_at}

@@ -1,6 +1,6 @@
 -- The shape of a pool whose data blocks are moved.
-use Rattle.std.proofs.Common.{◌≡◌, ℕ, zero, suc, ◌<◌, ◌≤◌, nat_eq, true, List, [], ◌∷◌, ◌++◌, length, map, refl, sym, ap, ap₂, ◌∙◌, subst}
-use Rattle.std.specs.List.{AllByRecursion, flat_map, list_any}
+use Rattle.std.proofs.Common.{◌≡◌, ℕ, zero, suc, ◌<◌, ◌≤◌, List, [], ◌∷◌, ◌++◌, length, map, refl, sym, ap, ap₂, ◌∙◌, subst}
+use Rattle.std.specs.List.{AllByRecursion, flat_map}
 use Rattle.std.proofs.lemmas.List.{length-map, map-append}
 use Rattle.pd_kinds.specs.Meaning.{Mapping, ThinDevice}
 use Rattle.pd_laid.specs.Shape.{ArePieces, IsShape, Piece, own, shared, ShapeDevice, ThinShape, device_of, leaf_mappings, piece_mappings, pool_of, uses_of, uses_of_piece}
@@ -8,7 +8,6 @@ use Rattle.pd_shapes.specs.PoolText.{IsLawfulShape}
 use Rattle.pd_spells.specs.Lawful.{IsLawfulPool}
 use Rattle.pd_answers.specs.MovedPool.{Move, moved_device, moved_mapping, moved_pool, moves_to, sources}
 use Rattle.pd_answers.specs.MovedShape.{moved_piece, moved_shape, moved_shape_device}
-use Rattle.pd_changed.specs.Moving.{IsMoving}
 
 module _ (moves : List Move) where
   abbrev goes : List Mapping → List Mapping

@@ -11,7 +11,7 @@ use Rattle.pd_kinds.specs.Graph.{Graph, block_at, nodes}
 use Rattle.pd_kinds.specs.Layout.{Layout, copy, graph_of, is_bad, layout_bad}
 use Rattle.pd_kinds.specs.Rule.{all_rules}
 use Rattle.pd_kinds.specs.Stages.{IsReached, checked_of, era_checked}
-use Rattle.pd_kinds.specs.Whole.{WholeTest, era_arrays, era_whole}
+use Rattle.pd_kinds.specs.Whole.{era_arrays, era_whole}
 use Rattle.pd_laws.specs.InOrder.{AreInOrder}
 use Rattle.pd_graph.specs.declared.audit.Audit.{Audit}
 use Rattle.pd_graph.specs.Audit.{blocks_of, roles_at}

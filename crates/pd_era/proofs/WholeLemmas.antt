@@ -1,18 +1,14 @@
 -- The rules of a whole era target, one after another.
-use Rattle.std.proofs.Common.{◌≡◌, ℕ, List, [], ◌∷◌, ◌++◌, map, refl, sym, ap, ◌∙◌, subst, arith, append-nil}
+use Rattle.std.proofs.Common.{◌≡◌, ℕ, List, [], ◌∷◌, ◌++◌, map, sym, ap, ◌∙◌, arith}
 use Rattle.std.specs.List.{flat_map}
 use Rattle.std.proofs.lemmas.Grind.{flat_map-append}
 use Rattle.pd_kinds.specs.EraFormat.{EraFields}
 use Rattle.pd_kinds.specs.Graph.{Graph}
-use Rattle.pd_kinds.specs.Stages.{IsReached}
-use Rattle.pd_kinds.specs.Whole.{Array, WholeTest, array_whole, reached_writesets}
+use Rattle.pd_kinds.specs.Whole.{WholeTest, array_whole, reached_writesets}
 use Rattle.pd_graph.specs.declared.audit.Audit.{Audit}
 use Rattle.pd_graph.specs.Audit.{KeepsButRules}
-use Rattle.pd_whole.specs.Charges.{Charges}
 use Rattle.pd_whole.proofs.KnownLemmas.{known_stays}
-use Rattle.pd_arrays.specs.declared.roles.ArrayRoles.{ArrayRoles}
-use Rattle.pd_arrays.specs.declared.marks.ArrayMarks.{ArrayMarks}
-use Rattle.pd_arrays.specs.Arrays.{AreMarked, HasArrays, array_of}
+use Rattle.pd_arrays.specs.Arrays.{HasArrays, array_of}
 use Rattle.pd_era.specs.Whole.{IsKnownEra, IsReady, arrays_named, bits, current_bits, eras, set_array, set_tests, snap_eras}
 
 -- what is known of an era target stays while rules are added

@@ -10,7 +10,7 @@ use Rattle.pd_kinds.specs.declared.kind.Flagged.TheVariants as flagged
 use Rattle.pd_kinds.specs.declared.kind.Passing.{Passing}
 use Rattle.pd_kinds.specs.declared.kind.Passing.TheVariants.{Nothing, Leaks}
 use Rattle.pd_kinds.specs.Flagged.{kind_of}
-use Rattle.pd_answers.specs.Requests.{check, check_and_clear, repair, search, shrink}
+use Rattle.pd_answers.specs.Requests.{check_and_clear, repair, search, shrink}
 use Rattle.pd_answers.specs.Words.{is_flag, items_of, given, given_super, version_of, generated_number, number_below, tool_in, request_of, asked}
 use Rattle.pd_exact.specs.Saved.{IsVersionAsked}
 use Rattle.pd_exact.specs.Search.{DoNumbersFit, NumberWords, SayNumbers, with_numbers}

@@ -1,5 +1,5 @@
 -- What is saved from named roots.
-use Rattle.std.proofs.Common.{◌≡◌, ℕ, ◌+◌, ◌-◌, ◌^◌, ◌<◌, ◌≤◌, max, min, Bool, true, false, cond, List, [], ◌∷◌, length, replicate, refl, sym, ap, ap₂, subst, ◌∙◌, arith}
+use Rattle.std.proofs.Common.{◌≡◌, ℕ, ◌+◌, ◌-◌, ◌^◌, ◌<◌, ◌≤◌, max, min, Bool, true, false, cond, List, [], ◌∷◌, length, refl, sym, ap, subst, ◌∙◌, arith}
 use Rattle.std.specs.List.{flat_map}
 use Rattle.std.specs.Prelude.{fold}
 use Rattle.std.proofs.lemmas.List.Elements.{All-replicate}
@@ -9,7 +9,7 @@ use Rattle.pd_kinds.specs.Layout.{graph_of}
 use Rattle.pd_kinds.specs.Limits.{room_of}
 use Rattle.pd_kinds.specs.Meaning.{ThinPool}
 use Rattle.pd_kinds.specs.ThinSuper.{ThinFields}
-use Rattle.pd_laid.specs.FoundRoots.{FoundRoots, are_fitting, devices_below, found_pool, lost_graph, roots_at, times_of}
+use Rattle.pd_laid.specs.FoundRoots.{FoundRoots, are_fitting, found_pool, lost_graph, roots_at, times_of}
 use Rattle.pd_laid.specs.Laid.{IsLaid}
 use Rattle.pd_laid.specs.LaidThin.{laid_pool}
 use Rattle.pd_laid.specs.Salvage.{salvage_from}

@@ -1,8 +1,8 @@
 -- What an answered dry run without a superblock has told.
-use Rattle.std.proofs.Common.{◌≡◌, ℕ, false, List, [], ◌∷◌, Option, Some, None, IfSome, refl, sym, ap, ◌∙◌, subst, arith}
+use Rattle.std.proofs.Common.{◌≡◌, ℕ, List, [], ◌∷◌, Option, Some, None, refl, sym, ◌∙◌, subst, arith}
 use Rattle.std.proofs.lemmas.Option.{IfSome_then, same_Some}
 use Rattle.pd_kinds.specs.Objects.{Appends}
-use Rattle.pd_laid.specs.FoundRoots.{FoundRoots, IsFound, are_fitting, lost_graph}
+use Rattle.pd_laid.specs.FoundRoots.{FoundRoots, IsFound, lost_graph}
 use Rattle.pd_answers.specs.Answer.{IsGiven, Objects}
 use Rattle.pd_answers.specs.KeptLines.{told_from, told_text}
 use Rattle.pd_answers.specs.NamedRepairs.{dry_search, dry_search_answer, text_of_states}
@@ -10,7 +10,7 @@ use Rattle.pd_answers.specs.NamedRoots.{GivenSuper, NamedRoots, named_fields}
 use Rattle.pd_answers.specs.States.{states}
 use Rattle.pd_answers.specs.Terms.{IsAnswered}
 use Rattle.pd_scan.specs.States.{first_of}
-use Rattle.pd_exact.specs.NamedRoots.{HasNoStates, TellsNamed, TellsStates, TellsStatesOf}
+use Rattle.pd_exact.specs.NamedRoots.{HasNoStates, TellsNamed, TellsStates}
 
 abbrev Image : Type 0
 Image = List (List ℕ)

@@ -1,6 +1,6 @@
 -- Trusted base.
 -- What a repair from named roots leaves, and what a dry run without a superblock tells, where the objects tell what they hold.
-use Rattle.std.specs.Prelude.{◌≡◌, ℕ, ◌^◌, Bool, true, false, List, [], ◌∷◌, Option, Some, None, IfSome, codes}
+use Rattle.std.specs.Prelude.{◌≡◌, ℕ, ◌^◌, Bool, true, false, List, [], ◌∷◌, Some, IfSome, codes}
 use Rattle.pd_kinds.specs.Crash.{HoldsSynced, IsOldNoneOrMade, LeavesOnly}
 use Rattle.pd_kinds.specs.Image.{IsImage}
 use Rattle.pd_kinds.specs.Meaning.{ThinPool}

@@ -1,21 +1,18 @@
 -- The shape of an image means what the image does, and is one.
-use Rattle.std.proofs.Common.{◌≡◌, ℕ, zero, suc, ◌^◌, ◌<◌, ◌≤◌, Bool, true, false, cond, nat_eq, nat_le, get_or, List, [], ◌∷◌, ◌++◌, length, map, count_by, refl, sym, ◌∙◌, ap, ap₂, arith}
+use Rattle.std.proofs.Common.{◌≡◌, ℕ, ◌^◌, ◌<◌, ◌≤◌, true, nat_eq, nat_le, get_or, List, [], ◌∷◌, ◌++◌, length, map, count_by, refl, sym, ◌∙◌, ap, ap₂, arith}
 use Rattle.std.specs.List.{AllByRecursion, flat_map, range_with_len}
 use Rattle.std.proofs.lemmas.Bool.{and_parts, ltb-true, leb-true}
-use Rattle.std.proofs.Math.Path.{fun_ext}
-use Rattle.std.proofs.lemmas.List.{append-nil, length-map, map-append}
+use Rattle.std.proofs.lemmas.List.{length-map, map-append}
 use Rattle.std.proofs.lemmas.Grind.{flat_map-append}
 use Rattle.pd_kinds.specs.declared.kind.Kind.TheVariants.{Thin}
 use Rattle.pd_kinds.specs.declared.kind.Stage.TheVariants as stages
-use Rattle.pd_kinds.specs.Graph.{Graph, block_at, block_of, is_inner_pair, pair}
+use Rattle.pd_kinds.specs.Graph.{Graph, block_at}
 use Rattle.pd_kinds.specs.Layout.{graph_of, leaf_entries}
 use Rattle.pd_kinds.specs.Meaning.{Mapping, ThinDevice, thin_device, thin_meaning}
 use Rattle.pd_kinds.specs.Node.{Entry}
-use Rattle.pd_kinds.specs.Order.{children, gathered}
 use Rattle.pd_kinds.specs.Stages.{HasCleanSuper, faults, thin_checked}
 use Rattle.pd_kinds.specs.ThinFormat.{mapped_block, mapped_time, thin_graph}
 use Rattle.pd_kinds.specs.ThinSuper.{thin_fields}
-use Rattle.pd_kinds.specs.Trees.{entries_below}
 use Rattle.pd_kinds.specs.Whole.{details_entries, mapping_entries, top_entries}
 use Rattle.pd_laid.proofs.NodeFacts.{leaves_entries}
 use Rattle.pd_laid.specs.Shape.{ArePieces, IsShape, ShapeDevice, device_of, pool_of, uses_of}

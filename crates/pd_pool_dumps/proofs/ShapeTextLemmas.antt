@@ -13,7 +13,6 @@ use Rattle.pd_grammar.specs.Texts.{text_of_lines}
 use Rattle.pd_spells.specs.ThinText.{Line, Run, end_line, joined_runs, map_line, number_in, pool_line, shared_first_line, thin}
 use Rattle.pd_spells.proofs.ThinLaws.{joined_mappings}
 use Rattle.pd_laid.specs.Shape as shape
-use Rattle.pd_laid.specs.Shape.{ShapeDevice}
 use Rattle.pd_shapes.specs.ImageShape.{all_leaf_blocks, device_shapes, image_shape, is_shared_leaf, mappings_in, shared_leaves}
 use Rattle.pd_shapes.specs.SharedText.{joined_part, joined_piece, lines_of_leaves, lines_of_part, lines_of_piece, mappings_of_runs, text_of_shape}
 use Rattle.pd_shapes.proofs.LeafRuns.{number_mapped}

@@ -1,6 +1,6 @@
 -- The data blocks of shared leaves, counted once for each use but up to three times.
-use Rattle.std.proofs.Common.{◌≡◌, ℕ, zero, suc, ◌+◌, ◌*◌, ◌<◌, Bool, true, false, cond, eqb, get_or, min, List, [], ◌∷◌, ◌++◌, map, take, drop, refl, ap, ap₂, sym, subst, ◌∙◌, arith, add-one, append_assoc, zero-add}
-use Rattle.std.specs.List.{count_by, flat_map, range_with_len}
+use Rattle.std.proofs.Common.{◌≡◌, ℕ, zero, suc, ◌+◌, ◌*◌, ◌<◌, Bool, true, false, cond, eqb, get_or, min, List, [], ◌∷◌, ◌++◌, refl, ap, sym, ◌∙◌, arith, add-one, append_assoc, zero-add}
+use Rattle.std.specs.List.{count_by}
 use Rattle.std.specs.Prelude.{sum_by}
 use Rattle.std.proofs.lemmas.Bool.Decides.{nat_tests}
 use Rattle.std.proofs.lemmas.List.{append-nil}

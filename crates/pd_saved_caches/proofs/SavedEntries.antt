@@ -1,6 +1,6 @@
 -- The saved entries of any cache ascend, fit their fields, and no two of them have one origin.
-use Rattle.std.proofs.Common.{◌≡◌, ℕ, zero, suc, ◌+◌, ◌%◌, ◌/◌, ◌^◌, ◌*◌, if◌then◌else◌, ◌<◌, ◌≤◌, Bool, true, false, not, ◌&&◌, ◌||◌, nat_eq, nat_lt, List, [], ◌∷◌, filter, Option, Some, None, IfSome, refl, sym, ◌∙◌, ap, subst, arith, inl, inr, true≢false}
-use Rattle.std.specs.List.{AllByRecursion, cons_option, list_any, filter_map, range_with_len}
+use Rattle.std.proofs.Common.{◌≡◌, ℕ, ◌+◌, ◌%◌, ◌/◌, ◌^◌, ◌*◌, if◌then◌else◌, ◌<◌, ◌≤◌, Bool, true, false, not, ◌&&◌, ◌||◌, nat_eq, nat_lt, List, [], ◌∷◌, Option, Some, None, IfSome, refl, ◌∙◌, arith, inl, inr, true≢false}
+use Rattle.std.specs.List.{filter_map, range_with_len}
 use Rattle.std.specs.Option.{option_and_then, unwrap_or}
 use Rattle.std.proofs.lemmas.Bool.{cases_Bool}
 use Rattle.std.proofs.lemmas.List.{append-nil}
@@ -10,11 +10,10 @@ use Rattle.pd_kinds.specs.CacheFormat.{CacheFields}
 use Rattle.pd_kinds.specs.Edge.{is_outside}
 use Rattle.pd_kinds.specs.Graph.{block_at}
 use Rattle.pd_kinds.specs.Image.{HasBytes}
-use Rattle.pd_kinds.specs.Meaning.{CacheEntry}
 use Rattle.pd_kinds.specs.Trees.{value_of_key}
 use Rattle.pd_kinds.specs.Whole.{is_valid_word}
 use Rattle.pd_laid.specs.Salvage.{salvaged_entries}
-use Rattle.pd_laid.specs.SavedCache.{found_entries, is_array_damaged, is_repeated, saved_cache_from, saved_entry, saved_entry_of, saved_hint, saved_word, saved_word_at, saved_word_of}
+use Rattle.pd_laid.specs.SavedCache.{found_entries, is_array_damaged, saved_cache_from, saved_entry, saved_entry_of, saved_hint, saved_word, saved_word_at, saved_word_of}
 use Rattle.pd_spells.specs.Lawful.{AreEntries}
 use Rattle.pd_cache_salvage.specs.Kept.{DoAscend, IsGood}
 use Rattle.pd_cache_salvage.proofs.KeptEntries.{kept_lawful, made_ascend}

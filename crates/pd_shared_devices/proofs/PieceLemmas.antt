@@ -1,7 +1,6 @@
 -- Leaves that take their items run by run.
-use Rattle.std.proofs.Common.{◌≡◌, ℕ, ◌+◌, ◌^◌, ◌≤◌, List, [], ◌∷◌, ◌++◌, length, length-append, refl, sym, ◌∙◌, ap, subst, append_assoc, arith, get_or, take, drop, ◌<◌}
-use Rattle.std.proofs.lemmas.List.{append-nil, map-append, take_more, drop_more}
-use Rattle.std.proofs.lemmas.List.Concat.{flat_map-append}
+use Rattle.std.proofs.Common.{◌≡◌, ℕ, ◌+◌, ◌^◌, ◌≤◌, List, [], ◌∷◌, ◌++◌, length, length-append, refl, sym, ◌∙◌, ap, subst, append_assoc, arith, ◌<◌}
+use Rattle.std.proofs.lemmas.List.{append-nil}
 use Rattle.pd_kinds.specs.Meaning.{Mapping}
 use Rattle.pd_kinds.specs.Node.{Entry, leaf_block}
 use Rattle.pd_draft.specs.Closed.{IsClosed}
@@ -14,13 +13,11 @@ use Rattle.pd_laid.specs.LaidThin.{mapping_items}
 use Rattle.pd_laid.specs.Tree.{blocks_from, heads}
 use Rattle.pd_laid.proofs.LaidLemmas.{blocks_from-append, length-blocks_from}
 use Rattle.pd_shapes.specs.SharedText.{mappings_of_runs}
-use Rattle.pd_build.specs.Leaves.{LeavesLeft, leaves_to_come, leaf_ended}
+use Rattle.pd_build.specs.Leaves.{LeavesLeft, leaves_to_come}
 use Rattle.pd_build.specs.Parts.{cut}
 use Rattle.pd_build.proofs.UpperLemmas.{heads-append}
 use Rattle.pd_devices.proofs.RunLemmas.{items-append}
-use Rattle.pd_devices.specs.Lines.{run_of}
-use Rattle.pd_devices.specs.declared.runs.Run.{Run as Value}
-use Rattle.pd_shared_devices.specs.Piece.{runs_of, items_of_runs, CanBeLaid, TakesAll}
+use Rattle.pd_shared_devices.specs.Piece.{items_of_runs, CanBeLaid, TakesAll}
 
 -- nothing was taken yet
 pub takes_none : (size : ℕ) (t : LeavesLeft) (row : List Entry) (draft_state : DraftState) → IsClosed draft_state.device → TakesAll size [] t t row row draft_state draft_state

@@ -1,5 +1,4 @@
-use Rattle.std.proofs.Common.{List, ◌++◌, ◌<◌, ap, get_or, length, refl, sym, subst, take, drop, ◌∙◌, arith}
-use Rattle.std.specs.List.{AllByRecursion}
+use Rattle.std.proofs.Common.{List, ◌++◌, ◌<◌, ap, get_or, length, refl, drop, ◌∙◌, arith}
 use Rattle.pd_count.specs.Counted.{count_of}
 use Rattle.pd_runs.specs.Places.{runs_from}
 use Rattle.pd_thin_meaning.specs.declared.joined.Run.{Run}

@@ -1,10 +1,9 @@
-use Rattle.std.proofs.Common.{List, [], ◌++◌, ap, length, subst, ◌∙◌, arith}
+use Rattle.std.proofs.Common.{[], ◌++◌, ap, ◌∙◌}
 use Rattle.pd_count.specs.Counted.{count_of}
 use Rattle.pd_laid.specs.Shape.{pool_of}
 use Rattle.pd_spells.specs.ThinNeed.{mapped_data}
 use Rattle.pd_salvage.specs.declared.saved.SavedHead.{SavedHead}
 use Rattle.pd_salvage.specs.SavedShape.{held_shape}
-use Rattle.pd_restore.specs.Overflowing.{data_of_runs}
 use Rattle.pd_restore.specs.PlainNeed.{leaves_used}
 use Rattle.pd_restore.proofs.PlainDataLemmas.{counts_pool}
 use Rattle.pd_restore.proofs.SavedNeedLemmas.{over_all}

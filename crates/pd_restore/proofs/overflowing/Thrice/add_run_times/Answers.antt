@@ -1,4 +1,4 @@
-use Rattle.std.proofs.Common.{List, ◌++◌, ◌∙◌, refl, sym, subst}
+use Rattle.std.proofs.Common.{◌++◌, ◌∙◌, refl, sym, subst}
 use Rattle.std.specs.List.{range_with_len}
 use Rattle.pd_restore.specs.Overflowing.{HasCountedThrice, copies}
 use Rattle.pd_restore.proofs.PlainNeedLemmas.{copies_more, copies_none}

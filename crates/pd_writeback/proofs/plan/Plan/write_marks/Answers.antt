@@ -1,4 +1,4 @@
-use Rattle.std.proofs.Common.{◌≡◌, ◌≤◌, ℕ, List, length, sym, ap, ◌∙◌, subst, arith}
+use Rattle.std.proofs.Common.{◌≡◌, ◌≤◌, ℕ, List, length, ap, ◌∙◌, subst, arith}
 use Rattle.pd_kinds.specs.Crash.{HoldsSynced, LeavesOnly}
 use Rattle.pd_kinds.specs.declared.block.Block.{Block}
 use Rattle.pd_image.proofs.CrashLemmas.{at_some}
