@@ -1,5 +1,5 @@
 -- Numbers by their digits.
-use Rattle.std.proofs.Common.{◌≡◌, ◌≢◌, ℕ, ◌+◌, ◌*◌, ◌/◌, ◌%◌, ◌<◌, ◌≤◌, Bool, true, false, cond, eqb, List, length, map, take, drop, get_or, set, refl, sym, ◌∙◌, ap, ap₂, arith, get_or-set_same, get_or-set_other, length-drop}
+use Rattle.std.proofs.Common.{◌≡◌, ◌≢◌, ℕ, ◌+◌, ◌*◌, ◌/◌, ◌%◌, ◌<◌, ◌≤◌, Bool, true, false, cond, eqb, List, length, map, take, drop, get_or, set, refl, sym, ◌∙◌, ap, ap₂, arith, get_or-set_same, get_or-set_other, length-drop, length-set}
 use Rattle.std.specs.List.{count_by, range_with_len}
 use Rattle.std.specs.Int.{from_bool}
 use Rattle.std.proofs.lemmas.Bool.Decides.{nat_tests}
@@ -50,11 +50,14 @@ raised d at below some =
           omega (arith, other k apart, other (16320 + k) (λ e. omega arith), other (32640 + k) (λ e. omega arith), other (48960 + k) (λ e. omega arith));
     }
 
--- a number whose lowest digit has room is not the greatest
-pub room_for_one : (d : List ℕ) (at : ℕ) → get_or d at 0 < 255 → get_or d (16320 + at) 0 < 256 → get_or d (32640 + at) 0 < 256
-    → get_or d (48960 + at) 0 < 256 → digits_number d at < 4294967295
-unfolding digits_number
-room_for_one d at first second third fourth = omega arith
+-- the only digit of a place was put
+pub low_put : (d : List ℕ) (at n : ℕ) → at < 16320 → length d ≡ 16320 → Puts at n (digits_number d) (digits_number (set d at n))
+low_put d at n below size =
+    let same : length (set d at n) ≡ 16320 = length-set d at n ∙ size in
+    record {
+      put = low_digit (set d at n) at same ∙ get_or-set_same d at n 0 (omega arith);
+      others = λ k apart within. low_digit (set d at n) k same ∙ (get_or-set_other d at k n 0 apart ∙ sym (low_digit d k size));
+    }
 
 -- a digit was put
 pub record PutsDigit (i digit : ℕ) (old new : List ℕ) : Type 0 where

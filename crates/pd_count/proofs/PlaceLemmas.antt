@@ -45,11 +45,6 @@ ones_full (suc i) =
     ap count_ones e ∙ (ones_cat i 1 (2 ^ i - 1) (omega (arith, pow_pos i)) ∙ omega (arith, ones_full i, one))
 
 -- what the bits below a bit come to, by the mask
-pub before_all : (m i one : ℕ) → one ≡ 2 ^ i → bit_and m (one - 1) ≡ one - 1 → i ≡ made_before m i
-unfolding made_before
-before_all m i one is all =
-    sym (ap count_ones (sym (and_mask m i) ∙ (ap (λ (x : ℕ). bit_and m (x - 1)) (sym is) ∙ (all ∙ ap (λ (x : ℕ). x - 1) is))) ∙ ones_full i)
-
 pub before_some : (m i one : ℕ) → one ≡ 2 ^ i → count_ones (bit_and m (one - 1)) ≡ made_before m i
 unfolding made_before
 before_some m i one is = ap (λ (x : ℕ). count_ones (bit_and m (x - 1))) is ∙ ap count_ones (and_mask m i)

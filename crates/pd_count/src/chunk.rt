@@ -134,28 +134,25 @@ impl Chunk {
         }
     }
 
-    /// Raises the number at a place by one, unless it is as great as it can be, and makes the chunk where it isn't there.
-    /// Want of memory leaves all as before.
-    pub(crate) fn saturating_add(&mut self, at: usize) -> Result<(), AllocError>
+    /// Raises the number at a place by one, unless it is as great as it can be, makes the chunk where it isn't there, and
+    /// answers what the number was. Want of memory leaves all as before.
+    pub(crate) fn saturating_add(&mut self, at: usize) -> Result<u32, AllocError>
         requires { at < 16320 }
+        ensures before { IfOk result (λ before. before ≡ slice_index self.old at) }
         ensures added { OnOk result (PutsAt at (min (slice_index self.old at + 1) (2 ^ 32 - 1)) self.old self.new) }
         ensures err { OnErr result (self.new ≡ self.old) }
     {
-        if self.raise(at) {
-            return Ok(());
+        let before = self.get(at);
+        if before < u32::MAX && !self.raise(at) {
+            self.set(at, before + 1)?;
         }
-        let number = self.get(at);
-        if number == u32::MAX {
-            return Ok(());
-        }
-        self.set(at, number + 1)
+        Ok(before)
     }
 
     /// Raises the number at a place by one where that takes no more digits, and tells whether it did.
     fn raise(&mut self, at: usize) -> bool
         requires { at < 16320 }
         ensures raised { result ≡ true → PutsAt at (slice_index self.old at + 1) self.old self.new }
-        ensures few { result ≡ true → slice_index self.old at < 2 ^ 32 - 1 }
         ensures same { result ≡ false → self.new ≡ self.old }
     {
         match &mut self.form {

@@ -66,12 +66,13 @@ impl Counts {
         Ok(())
     }
 
-    /// Counts the block once more, unless its count is as great as it can be, which is 2^32 - 1. It takes memory as `add`
-    /// does.
+    /// Counts the block once more, unless its count is as great as it can be, which is 2^32 - 1, and answers how often it was
+    /// counted before. It takes memory as `add` does.
     ///
     /// Fails with `AllocError` where that memory wasn't found; then all is as before.
-    pub fn saturating_add(&mut self, b: u64) -> Result<(), AllocError>
+    pub fn saturating_add(&mut self, b: u64) -> Result<u32, AllocError>
         requires { b < self.old.size }
+        ensures before { IfOk result (λ before. before ≡ count_of self.old b) }
         ensures put { OnOk result (PutsNumber b (min (count_of self.old b + 1) (2 ^ 32 - 1)) self.old self.new) }
         // So it is one count more, unless there is no greater one.
         ensures added { OnOk result (count_of self.old b < 2 ^ 32 - 1 → CountsOneMore b self.old self.new) }
@@ -80,8 +81,8 @@ impl Counts {
     {
         let i = (b / CHUNK_COUNTS as u64) as usize;
         let at = (b % CHUNK_COUNTS as u64) as usize;
-        self.groups[i / GROUP_CHUNKS].saturating_add(i % GROUP_CHUNKS, at)?;
-        Ok(())
+        let before = self.groups[i / GROUP_CHUNKS].saturating_add(i % GROUP_CHUNKS, at)?;
+        Ok(before)
     }
 
     /// Puts the number of the block, in a table of other numbers than counts. It takes memory as `add` does.

@@ -3,7 +3,7 @@
 //! The lowest digits of all places stand first, then the second ones, and so on, as far as a number that was put
 //! needs them: 16320 bytes where all numbers are below 256, 32640 where all are below 65536, and 65280 else.
 
-ghost use Rattle.std.specs.Prelude.{◌≡◌, ◌≢◌, ℕ, ◌+◌, ◌-◌, ◌*◌, ◌%◌, ◌^◌, ◌<◌, ◌≤◌, ◌==◌, true, false, length, map, slice_index, IfOk, OnOk, OnErr, MatchOption};
+ghost use Rattle.std.specs.Prelude.{◌≡◌, ◌≢◌, ℕ, ◌+◌, ◌*◌, ◌%◌, ◌^◌, ◌<◌, ◌≤◌, ◌==◌, true, false, length, map, slice_index, IfOk, OnOk, OnErr, MatchOption};
 ghost use Rattle.std.specs.List.{count_by, range_with_len};
 ghost use Rattle.pd_count.specs.Forms.{AreDigits, AreEntries, HasRoom, Puts, digits_number, entered};
 
@@ -115,6 +115,10 @@ pub(crate) fn put(digits: &mut Vec<u8>, at: usize, number: u32) -> Result<(), Al
     ensures put { OnOk result (Puts at number (digits_number digits.old.items) (digits_number digits.new.items)) }
     ensures err { OnErr result (digits.new.items ≡ digits.old.items) }
 {
+    if number < 256 && digits.len() == CHUNK_COUNTS {
+        digits[at] = number as u8;
+        return Ok(());
+    }
     make_room(digits, number)?;
     write(digits, at, number);
     Ok(())
@@ -126,24 +130,13 @@ pub(crate) fn raise(digits: &mut [u8], at: usize) -> bool
     requires place { at < 16320 }
     ensures digits { AreDigits digits.new }
     ensures raised { result ≡ true → Puts at (digits_number digits.old at + 1) (digits_number digits.old) (digits_number digits.new) }
-    ensures few { result ≡ true → digits_number digits.old at < 2 ^ 32 - 1 }
     ensures same { result ≡ false → digits.new ≡ digits.old }
 {
-    let room = has_room(digits, at);
+    let room = digits[at] < u8::MAX;
     if room {
         digits[at] += 1;
     }
     room
-}
-
-/// Whether the lowest digit of a place has room for one more.
-fn has_room(digits: &[u8], at: usize) -> bool
-    requires digits { AreDigits digits.now }
-    requires place { at < 16320 }
-    ensures room { result ≡ true → slice_index digits.now at < 255 }
-    ensures few { result ≡ true → digits_number digits.now at < 2 ^ 32 - 1 }
-{
-    digits[at] < u8::MAX
 }
 
 /// The digits of the numbers of these entries.

@@ -80,19 +80,21 @@ impl Group {
         }
     }
 
-    /// Raises the number at a place of chunk `i` by one, unless it is as great as it can be, and makes the chunk where it
-    /// isn't made. Want of memory leaves all as before.
-    pub(crate) fn saturating_add(&mut self, i: usize, at: usize) -> Result<(), AllocError>
+    /// Raises the number at a place of chunk `i` by one, unless it is as great as it can be, makes the chunk where it isn't
+    /// made, and answers what the number was. Want of memory leaves all as before.
+    pub(crate) fn saturating_add(&mut self, i: usize, at: usize) -> Result<u32, AllocError>
         requires chunk { i < 64 }
         requires place { at < 16320 }
+        ensures before { IfOk result (λ before. before ≡ slice_index (chunk_of self.old i) at) }
         ensures added { OnOk result (PutsInGroup i at (min (slice_index (chunk_of self.old i) at + 1) (2 ^ 32 - 1)) self.old self.new) }
         ensures err { OnErr result (self.new ≡ self.old) }
     {
         let Some(place) = self.place(i) else {
-            return self.begin(i, at, 1);
+            self.begin(i, at, 1)?;
+            return Ok(0);
         };
-        self.chunks[place].saturating_add(at)?;
-        Ok(())
+        let before = self.chunks[place].saturating_add(at)?;
+        Ok(before)
     }
 
     /// Puts the number at a place of chunk `i`, and makes the chunk where it isn't made. Want of memory leaves all as
@@ -135,17 +137,13 @@ fn is_set(bits: u64, i: usize) -> bool
     (bits >> i) % 2 == 1
 }
 
-/// How many bits below bit `i` are set. Mostly all are.
+/// How many bits below bit `i` are set.
 fn set_below(bits: u64, i: usize) -> usize
     requires { i < 64 }
     ensures { result ≡ made_before bits i }
 {
-    let all = (1 << i) - 1;
-    let set = bits & all;
-    if set == all {
-        return i;
-    }
-    set.count_ones() as usize
+    let below = (1 << i) - 1;
+    (bits & below).count_ones() as usize
 }
 
 /// Inserts a chunk, in a list that takes no more memory than its chunks. Want of memory leaves the list as before.

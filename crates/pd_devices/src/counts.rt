@@ -76,8 +76,7 @@ impl BlockCounts {
     {
         // There are no more such blocks than blocks, whose number is one of its type.
         let _blocks = self.counts.size();
-        let before = self.counts.get(b);
-        self.counts.add(b)?;
+        let before = self.counts.saturating_add(b)?;
         self.total += 1;
         if before == 2 {
             self.over += 1;

@@ -1,8 +1,12 @@
-use Rattle.std.proofs.Common.{◌∙◌, sym, ap, subst, List, ℕ, get_or, length}
+use Rattle.std.proofs.Common.{◌∙◌, sym, ap, subst, List, ℕ, get_or, length, arith}
 use Rattle.std.proofs.lemmas.List.{with_items_is}
 use Rattle.pd_count.specs.Forms.{Puts, digits_number}
-use Rattle.pd_count.proofs.DigitLemmas.{puts_same}
+use Rattle.pd_count.proofs.DigitLemmas.{low_put, puts_same}
 use Rattle.pd_count.proofs.dense.put.Goals as goal
+
+pub returns-then-len-eq-CHUNK_COUNTS-clause-put : goal.returns-then-len-eq-CHUNK_COUNTS-clause-put
+returns-then-len-eq-CHUNK_COUNTS-clause-put c =
+    low_put c.args.digits.now.items c.args.at c.args.number c.requires.place (omega (arith, c.len.ensures, c.if-len-eq-CHUNK_COUNTS.true))
 
 pub returns-clause-put : goal.returns-clause-put
 returns-clause-put c =

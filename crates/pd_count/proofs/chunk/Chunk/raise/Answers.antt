@@ -1,4 +1,4 @@
-use Rattle.std.proofs.Common.{◌∙◌, sym, ap, ℕ, length, arith}
+use Rattle.std.proofs.Common.{◌∙◌, sym, ap, ℕ, length}
 use mathlib.Core.Bool.{false≢true}
 use Rattle.std.proofs.lemmas.List.{with_items_is}
 use Rattle.pd_count.specs.Forms.{digits_number, form_numbers}
@@ -19,13 +19,4 @@ returns-clause-raised c = elim c.match-self.branch [
       let after = shown_dense (the_view c.match-self.self-inside) _ new (ap the_view w.self-inside-is) (sym whole) in
       raised_shown c.args.at c.args.self.now (the_view c.match-self.self-inside) (digits_number w.deref_mut.result.now) (digits_number new) c.requires before after
       (w.raise.ensures.raised (sym w.result-is ∙ raised))
-]
-
-pub returns-clause-few : goal.returns-clause-few
-returns-clause-few c = elim c.match-self.branch [
-  | in-Few w ↦ λ raised. absurd (false≢true (sym w.result-is ∙ raised))
-  | in-Dense w ↦ λ raised.
-      let read = w.deref_mut.ensures.value in
-      let before = shown_dense c.args.self.now w.in-Dense.digits.items w.deref_mut.result.now (sym c.self.view_is ∙ ap form_numbers w.in-Dense.is) read in
-      omega (arith, before.within c.args.at c.requires, w.raise.ensures.few (sym w.result-is ∙ raised))
 ]
