@@ -6,23 +6,25 @@ use Rattle.pd_kinds.specs.declared.kind.Kind.TheVariants.{Cache}
 use Rattle.pd_kinds.specs.declared.kind.Stage.TheVariants.{Super}
 use Rattle.pd_kinds.specs.CacheFormat.{cache_fields}
 use Rattle.pd_kinds.specs.Graph.{block_at}
-use Rattle.pd_kinds.specs.Meaning.{CacheEntry, CacheMeaning}
+use Rattle.pd_kinds.specs.Meaning.{CacheMeaning}
 use Rattle.pd_kinds.specs.Stages.{faults}
 use Rattle.pd_laid.specs.SavedCache.{saved_cache}
 use Rattle.pd_answers.specs.Answer.{Answer, Objects, reading, writing}
+use Rattle.pd_answers.specs.CachedView.{is_hot}
 use Rattle.pd_answers.specs.Makings.{Lays, Making, cache_making}
 use Rattle.pd_answers.specs.Outputs.{LeavesMadeFirst}
 use Rattle.pd_answers.specs.Reads.{any_reads}
 use Rattle.pd_answers.specs.Repairs.{FindsSaved, Salvaged, saved_answer}
 use Rattle.pd_answers.specs.Terms.{Terms, unnamed}
 
--- the line of what is kept of a cache: how many entries, of how many cache blocks, and how many of them are dirty
+-- the line of what is kept of a cache: how many entries, of how many cache blocks, and how many of them a kernel takes for dirty:
+-- where the cache wasn't shut down, that is each of them
 abbrev pub kept_line : ℕ → ℕ → ℕ → List ℕ
 kept_line entries blocks dirty =
     codes "keeps " ++ (decimal entries ++ (codes " of " ++ (decimal blocks ++ (codes " blocks, " ++ (decimal dirty ++ (codes " dirty" ++ (10 ∷ [])))))))
 
 abbrev pub keeps_line : CacheMeaning → List ℕ
-keeps_line m = kept_line (length m.entries) m.blocks (count_by (λ (e : CacheEntry). e.dirty) m.entries)
+keeps_line m = kept_line (length m.entries) m.blocks (count_by (is_hot m) m.entries)
 
 -- what is saved of a cache, and the version of the metadata in which it is written
 pub record SavedIn : Type 0 where

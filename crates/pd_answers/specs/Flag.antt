@@ -2,6 +2,7 @@
 -- What the flag "needs check" of a pool or a cache is, and what clearing it leaves of a device.
 use Rattle.std.specs.Prelude.{◌≡◌, ◌≢◌, ◌⊎◌, ℕ, ◌-◌, ◌*◌, ◌^◌, Bool, true, false, ◌==◌, if◌then◌else◌, List, [], ◌∷◌, drop, IfSome}
 use Rattle.std.specs.Int.{bit_at}
+use Rattle.std.specs.List.{AllByRecursion}
 use Rattle.pd_kinds.specs.declared.kind.Flagged.{Flagged}
 use Rattle.pd_kinds.specs.declared.kind.Flagged.TheVariants.{Pool, Cache}
 use Rattle.pd_kinds.specs.declared.kind.Passing.{Passing}
@@ -40,11 +41,18 @@ cleared flagged [] = []
 cleared flagged (block ∷ blocks) =
     if needs_check flagged (block ∷ blocks) then cleared_super flagged block ∷ blocks else block ∷ blocks
 
--- by no chance, the image is the old one, has the flag cleared where all that was reported passes, or is the old one with
--- a block 0 that is no valid superblock
-abbrev pub IsOldOrCleared : Flagged → Bool → List (List ℕ) → List (List ℕ) → List (List ℕ) → Type 0
-IsOldOrCleared flagged passed old image firsts =
-    Chance image firsts → (image ≡ old) ⊎ (((passed ≡ true) × (image ≡ cleared flagged old)) ⊎ (HasNoSuper image × (drop 1 image ≡ drop 1 old)))
+-- Block 0 is the old one, or, where all that was reported passes, the one with the flag cleared
+abbrev pub IsOldOrClearedSuper : Flagged → Bool → List (List ℕ) → List ℕ → Type 0
+IsOldOrClearedSuper flagged passed old block = (block ≡ block_at old 0) ⊎ ((passed ≡ true) × (block ≡ block_at (cleared flagged old) 0))
+
+-- What a crash leaves, where block 0 has had these contents since the last good sync. Each of them is the old block 0 or the cleared
+-- one, so what is left where a write is cut is torn between these two: nothing else is ever put there. All other blocks are the old
+-- ones. By no chance, the image is the old one, has the flag cleared where all that was reported passes, or is the old one with a
+-- block 0 that is no valid superblock
+pub record IsOldOrCleared (flagged : Flagged) (passed : Bool) (old image firsts : List (List ℕ)) : Type 0 where
+  pub contents : AllByRecursion (IsOldOrClearedSuper flagged passed old) firsts
+  pub others : drop 1 image ≡ drop 1 old
+  pub outcome : Chance image firsts → (image ≡ old) ⊎ (((passed ≡ true) × (image ≡ cleared flagged old)) ⊎ (HasNoSuper image × (drop 1 image ≡ drop 1 old)))
 
 -- the device of a check that clears the flag where all that was reported passes
 pub record LeavesCleared (flagged : Flagged) (passing : Passing) (report : Reported) (status : ℕ) (old new : DeviceState) : Type 0 where

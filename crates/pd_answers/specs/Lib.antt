@@ -14,6 +14,7 @@ pub mod Outputs
 pub mod CachedView
 pub mod Restores
 pub mod Repairs
+pub mod Seen
 pub mod Searches
 pub mod States
 pub mod NamedRoots

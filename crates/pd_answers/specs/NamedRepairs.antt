@@ -2,23 +2,36 @@
 -- The terms of a repair from roots that are named, and of what a repair without a superblock would keep.
 use Rattle.std.specs.Prelude.{◌≡◌, ℕ, Bool, true, false, List, [], ◌∷◌, ◌++◌, Option, Some, None, IfSome}
 use Rattle.std.specs.List.{flat_map}
+use Rattle.pd_kinds.specs.Meaning.{ThinPool}
 use Rattle.pd_laid.specs.FoundRoots.{FoundRoots, lost_graph}
 use Rattle.pd_laid.specs.Salvage.{salvage_from}
+use Rattle.pd_laid.specs.Shape.{ThinShape}
 use Rattle.pd_shapes.specs.SavedShape.{saved_shape_from}
 use Rattle.pd_answers.specs.Answer.{Answer, reading}
 use Rattle.pd_answers.specs.KeptLines.{told_from, told_text}
-use Rattle.pd_answers.specs.NamedRoots.{GivenSuper, NamedRoots, named_fields}
+use Rattle.pd_answers.specs.NamedRoots.{GivenSuper, NamedRoots, named_fields, pool_time, timeless_fields}
 use Rattle.pd_answers.specs.Reads.{any_reads}
 use Rattle.pd_answers.specs.Repairs.{Saved, repair_by}
 use Rattle.pd_answers.specs.SearchLines.{no_roots_line}
 use Rattle.pd_answers.specs.Searches.{found_fields}
+use Rattle.pd_answers.specs.Seen.{seen, timed_pool, timed_shape}
 use Rattle.pd_answers.specs.States.{state_line, states}
 use Rattle.pd_answers.specs.Terms.{Terms, unnamed, nothing}
 
--- what is saved from named roots, with the leaves that its devices share or without
+-- what stands below named roots, with the leaves that its devices share or without
+abbrev pub named_pool : List (List ℕ) → GivenSuper → NamedRoots → ThinPool
+named_pool image given named = timed_pool (pool_time (timeless_fields image given named) image) (salvage_from (named_fields image given named) image)
+
+abbrev pub named_shape : List (List ℕ) → GivenSuper → NamedRoots → ThinShape
+named_shape image given named = timed_shape (pool_time (timeless_fields image given named) image) (saved_shape_from (named_fields image given named) image)
+
+abbrev pub named_from : (shared : Bool) → List (List ℕ) → GivenSuper → NamedRoots → Saved shared
+named_from false = named_pool
+named_from true = named_shape
+
+-- what is saved from them: sharing is seen in it
 abbrev pub saved_from_named : (shared : Bool) → List (List ℕ) → GivenSuper → NamedRoots → Saved shared
-saved_from_named false image given named = salvage_from (named_fields image given named) image
-saved_from_named true image given named = saved_shape_from (named_fields image given named) image
+saved_from_named shared image given named = seen shared (named_from shared image given named)
 
 -- a repair from named roots looks at no faults: it isn't refused
 abbrev pub repair_named : Bool → List ℕ → List ℕ → GivenSuper → NamedRoots → Terms

@@ -8,6 +8,7 @@ use Rattle.pd_laid.specs.FoundRoots.{lost_graph, times_of}
 use Rattle.pd_laid.specs.Salvage.{salvage_from}
 use Rattle.pd_answers.specs.KeptLines.{found_mapped}
 use Rattle.pd_answers.specs.Searches.{found_fields}
+use Rattle.pd_answers.specs.Seen.{raised_time}
 
 -- what is given of the superblock: its transaction, the size of a data block in sectors, and how many data blocks there are
 pub record GivenSuper : Type 0 where
@@ -28,12 +29,16 @@ lacks_details fields image = list_any (λ (d : ThinDevice). is_none (found_mappe
 abbrev pub latest_time : ThinFields → List (List ℕ) → ℕ
 latest_time fields image = fold max 0 (flat_map times_of (salvage_from fields image).devices)
 
--- The time of a pool that is saved by a superblock without one. It is the latest time of what is saved, and one more where a
--- device has lost its details: a mapping of the latest time may be shared then. It has 32 bits
+-- The time that devices get which have lost their details, as created and as snapped: one more than the latest time of what is saved,
+-- as a mapping of that time may be shared. It has 32 bits. Where no details are lost it is the latest time
 unfoldable pub saved_time : ThinFields → List (List ℕ) → ℕ
 saved_time fields image = if lacks_details fields image then min (latest_time fields image + 1) (2 ^ 32 - 1) else latest_time fields image
 
--- the superblock of named roots, without a time and with it
+-- the time of a pool that is saved by a superblock without one: the same, but that it isn't raised past the greatest time of a mapping
+unfoldable pub pool_time : ThinFields → List (List ℕ) → ℕ
+pool_time fields image = raised_time (latest_time fields image) (saved_time fields image)
+
+-- the superblock of named roots, without a time and with that of lost details
 abbrev pub timeless_fields : List (List ℕ) → GivenSuper → NamedRoots → ThinFields
 timeless_fields image given named =
     found_fields (lost_graph image given.blocks) given.transaction given.block_size

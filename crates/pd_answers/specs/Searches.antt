@@ -12,6 +12,7 @@ use Rattle.pd_answers.specs.Makings.{Lays, Making, making_answer}
 use Rattle.pd_answers.specs.Outputs.{IsRoom, LeavesMadeFirst}
 use Rattle.pd_answers.specs.Reads.{any_reads}
 use Rattle.pd_answers.specs.Repairs.{Saved, saved_making}
+use Rattle.pd_answers.specs.Seen.{seen}
 use Rattle.pd_answers.specs.Terms.{Terms, unnamed}
 
 -- what a search finds: the best roots, if there are any, what is saved from them, and how many blocks there are for it
@@ -58,10 +59,14 @@ found_fields graph transaction block_size roots = record {
 unfoldable pub found_shape : Graph → List (List ℕ) → ℕ → ℕ → FoundRoots → ThinShape
 found_shape graph image transaction block_size roots = saved_shape_from (found_fields graph transaction block_size roots) image
 
--- what is saved from found roots, with the transaction and block size that are given
+-- what is found below some roots, with the transaction and block size that are given
+abbrev pub found_from : (shared : Bool) → Graph → List (List ℕ) → ℕ → ℕ → FoundRoots → Saved shared
+found_from false = found_pool
+found_from true = found_shape
+
+-- What is saved from them: sharing is seen in it. The best details tree may be older than the mapping tree
 abbrev pub saved_from : (shared : Bool) → Graph → List (List ℕ) → ℕ → ℕ → FoundRoots → Saved shared
-saved_from false = found_pool
-saved_from true = found_shape
+saved_from shared graph image transaction block_size roots = seen shared (found_from shared graph image transaction block_size roots)
 
 -- a search is a repair in which block 0 isn't looked at: its roots are found, and its numbers are given
 abbrev pub search : Bool → List ℕ → List ℕ → ℕ → ℕ → ℕ → Terms
