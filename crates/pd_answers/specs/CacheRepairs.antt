@@ -1,6 +1,6 @@
 -- Trusted base.
 -- The terms of a repair of a cache.
-use Rattle.std.specs.Prelude.{◌≡◌, ◌≢◌, ℕ, List, [], ◌∷◌, ◌++◌, length, count_by, Option, IfSome, codes, decimal}
+use Rattle.std.specs.Prelude.{◌≡◌, ◌≢◌, ℕ, ◌+◌, ◌≤◌, List, [], ◌∷◌, ◌++◌, length, count_by, Option, IfSome, codes, decimal}
 use Rattle.std.specs.Option.{unwrap_or}
 use Rattle.pd_kinds.specs.declared.kind.Kind.TheVariants.{Cache}
 use Rattle.pd_kinds.specs.declared.kind.Stage.TheVariants.{Super}
@@ -44,8 +44,10 @@ abbrev pub kept_answer : Salvaged SavedIn → Answer
 kept_answer found = saved_answer making_in (λ (saved : SavedIn). keeps_line saved.cache) found
 
 -- what it leaves of its output
-abbrev pub LeavesKept : Salvaged SavedIn → Objects → Objects → ℕ → Type 0
-LeavesKept found before after status = LeavesMadeFirst (Lays (kept_answer found) (making_in found.saved) found.room) (kept_answer found).status before after status
+pub record LeavesKept (found : Salvaged SavedIn) (before after : Objects) (status : ℕ) : Type 0 where
+  pub made : LeavesMadeFirst (Lays (kept_answer found) (making_in found.saved) found.room) (kept_answer found).status before after status
+  -- the room is looked at before a block behind the superblock is read: where there is none, block 0 alone was read
+  pub unread : (kept_answer found).status ≡ 4 → after.input.reads ≤ before.input.reads + 1
 
 -- it reads one image and writes another; memory isn't wanting where the superblock is told and has a fault
 abbrev pub repair_cache : Option ℕ → List ℕ → List ℕ → Terms
