@@ -18,17 +18,18 @@ use Rattle.pd_kinds.specs.Flagged.{kind_of}
 use Rattle.pd_kinds.specs.Image.{IsImage}
 use Rattle.pd_kinds.specs.Leaks.{AreLeaks, OnlyLeaks}
 use Rattle.pd_kinds.specs.Meaning.{cache_meaning}
-use Rattle.pd_kinds.specs.Report.{passes, report_of}
+use Rattle.pd_kinds.specs.Report.{Reported, passes, report_of}
 use Rattle.pd_kinds.specs.Stages.{IsClean, faults}
 use Rattle.pd_kinds.specs.Super.{salt_of}
 use Rattle.pd_kinds.proofs.CrashLemmas.{weaken}
 use Rattle.pd_kinds.proofs.FieldLemmas.{drop-put, le-lt, le-put, length-put}
 use Rattle.pd_kinds.proofs.WrittenLemmas.{drop-sealed, le-sealed_other}
+use Rattle.pd_laws.proofs.AllLemmas.{all_from}
 use Rattle.pd_laid_graph.proofs.Bytes.{bytes_put, valid_sealed}
 use Rattle.pd_answers.specs.Answer.{Objects}
-use Rattle.pd_answers.specs.Flag.{IsOldOrCleared, cleared, cleared_super, flag_bit, flags_without, is_flag_set, needs_check}
+use Rattle.pd_answers.specs.Flag.{IsOldOrCleared, IsOldOrClearedSuper, cleared, cleared_super, flag_bit, flags_without, is_flag_set, needs_check}
 use Rattle.pd_changed.specs.Alike.{AreAlike}
-use Rattle.pd_exact.specs.Exact.{HoldsCleared, IsCleared, IsClearingAnswered, IsPassed, LeavesOldOrCleared, TellsPassed}
+use Rattle.pd_exact.specs.Exact.{HoldsCleared, IsCleared, IsClearingAnswered, IsOldOrPassedSuper, IsPassed, LeavesOldOrCleared, LeavesTornAtMost, TellsPassed}
 use Rattle.pd_exact.proofs.Checked.{law_of}
 use Rattle.pd_exact.proofs.Restored.{both_told}
 
@@ -121,6 +122,32 @@ module _ (clean : (kind : Kind) (image : List (List ℕ)) → (faults kind Count
   passes_too Nothing kind image other same passed = (clean kind other).0 (same ∙ (clean kind image).1 passed)
   passes_too Leaks kind image other same passed = subst (λ (found : List Fault). AreLeaks found) (sym same) passed
 
+module _ (flagged : Flagged) (passing : Passing) where
+  -- what a crash leaves, by what was reported
+  crash_told : (path : List ℕ) (before after : Objects) (status : ℕ) (answered : IsClearingAnswered flagged passing path before after status)
+      → IfSome before.input.held (λ image. (answered.finding ≡ report_of (faults (kind_of flagged) Counts image))
+      × LeavesOnly (IsOldOrCleared flagged (passes passing answered.finding) image) before.input after.input)
+  crash_told path before after status answered =
+      both_told before.input.held (λ image. answered.finding ≡ report_of (faults (kind_of flagged) Counts image))
+      (λ image. LeavesOnly (IsOldOrCleared flagged (passes passing answered.finding) image) before.input after.input)
+      answered.found answered.leaves.crash
+
+  module _ (clean : (kind : Kind) (image : List (List ℕ)) → (faults kind Counts image ≡ []) ↔ IsClean kind image)
+      (leaks : (found : List Fault) → (passes Leaks (report_of found) ≡ true) ↔ AreLeaks found) where
+    -- an image whose report passes does
+    has_passed : (report : Reported) (image : List (List ℕ)) → report ≡ report_of (faults (kind_of flagged) Counts image) → passes passing report ≡ true → IsPassed passing (kind_of flagged) image
+    has_passed report image is passed = (law_of clean leaks passing (kind_of flagged) image).0 (ap (passes passing) (sym is) ∙ passed)
+
+    -- block 0 has had the old content alone, or that with the flag cleared where the image passes
+    pub leaves_torn : (path : List ℕ) (before after : Objects) (status : ℕ) → IsClearingAnswered flagged passing path before after status → LeavesTornAtMost flagged passing before after
+    leaves_torn path before after status answered =
+        IfSome_then before.input.held (crash_told path before after status answered)
+        (λ image both. weaken both.1 (λ left firsts was. record {
+          contents = all_from (IsOldOrClearedSuper flagged (passes passing answered.finding) image) (IsOldOrPassedSuper flagged passing image)
+              (λ block had. ⊎_elim (λ old. inl old) (λ made. inr (has_passed answered.finding image both.0 made.0, made.1)) had) firsts was.contents;
+          others = was.others;
+        }))
+
 module _ (flagged : Flagged) (passing : Passing)
     (law : (image : List (List ℕ)) → IsImage image → IsPassed passing (kind_of flagged) image → IsCleared flagged passing image (cleared flagged image)) where
   -- what the device holds after an answered check that cleared the flag
@@ -137,13 +164,7 @@ module _ (flagged : Flagged) (passing : Passing)
   pub leaves_cleared : ((kind : Kind) (image : List (List ℕ)) → (faults kind Counts image ≡ []) ↔ IsClean kind image) → ((found : List Fault) → (passes Leaks (report_of found) ≡ true) ↔ AreLeaks found)
       → (path : List ℕ) (before after : Objects) (status : ℕ) → IsClearingAnswered flagged passing path before after status → LeavesOldOrCleared flagged passing before after
   leaves_cleared clean leaks path before after status answered =
-      let report = answered.finding in
-      let kind = kind_of flagged in
-      IfSome_then before.input.held
-      (both_told before.input.held (λ image. report ≡ report_of (faults kind Counts image)) (λ image. LeavesOnly (IsOldOrCleared flagged (passes passing report) image) before.input after.input)
-      answered.found answered.leaves.crash)
+      IfSome_then before.input.held (crash_told flagged passing path before after status answered)
       (λ image both is. weaken both.1 (λ left firsts outcome chance. ⊎_elim (λ old. inl old) (λ other. inr (⊎_elim
-      (λ made.
-      let passed = (law_of clean leaks passing kind image).0 (ap (passes passing) (sym both.0) ∙ made.0) in
-      inr (rw made.1 (law image is passed)))
-      (λ none. inl none.0) other)) (outcome chance)))
+      (λ made. inr (rw made.1 (law image is (has_passed flagged passing clean leaks answered.finding image both.0 made.0))))
+      (λ none. inl none.0) other)) (outcome.outcome chance)))

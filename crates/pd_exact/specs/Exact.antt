@@ -1,6 +1,7 @@
 -- Trusted base.
 -- What restores leave and what checks tell, where the objects tell what they hold.
-use Rattle.std.specs.Prelude.{◌≡◌, ◌⊎◌, ℕ, ◌≤◌, false, List, [], Some, IfSome, length}
+use Rattle.std.specs.Prelude.{◌≡◌, ◌⊎◌, ℕ, ◌≤◌, false, List, [], Some, IfSome, drop, length}
+use Rattle.std.specs.List.{AllByRecursion}
 use Rattle.pd_kinds.specs.declared.kind.Kind.{Kind}
 use Rattle.pd_kinds.specs.declared.kind.Kind.TheVariants.{Thin, Cache, Era}
 use Rattle.pd_kinds.specs.declared.kind.Flagged.{Flagged}
@@ -36,7 +37,7 @@ use Rattle.pd_laid_thin.specs.CleanPool.{IsCleanPool}
 use Rattle.pd_laid_cache.specs.CleanCache.{IsCleanCache}
 use Rattle.pd_laid_era.specs.CleanEra.{IsCleanEra}
 use Rattle.pd_answers.specs.Answer.{NoFaults, Objects}
-use Rattle.pd_answers.specs.Flag.{needs_check}
+use Rattle.pd_answers.specs.Flag.{cleared, needs_check}
 use Rattle.pd_answers.specs.Promises.{terms_of}
 use Rattle.pd_answers.specs.QueryLines.{image_text}
 use Rattle.pd_answers.specs.Requests.{check, check_and_clear, passing_check, repair, restore}
@@ -179,6 +180,22 @@ abbrev pub LeavesOldOrCleared : Flagged → Passing → Objects → Objects → 
 LeavesOldOrCleared flagged passing before after =
     IfSome before.input.held (λ image. IsImage image →
     LeavesOnly (IsOldNoneOrMade image (IsCleared flagged passing image)) before.input after.input)
+
+-- block 0 is the old one, or, where the old image passes, the one with the flag cleared
+abbrev pub IsOldOrPassedSuper : Flagged → Passing → List (List ℕ) → List ℕ → Type 0
+IsOldOrPassedSuper flagged passing old block =
+    (block ≡ block_at old 0) ⊎ (IsPassed passing (kind_of flagged) old × (block ≡ block_at (cleared flagged old) 0))
+
+-- Whatever chance does, block 0 has had no other content than these two since the last good sync. So it is torn between them at
+-- most: zeros, say, were never put there. All other blocks are the old ones
+pub record IsTornAtMost (flagged : Flagged) (passing : Passing) (old image firsts : List (List ℕ)) : Type 0 where
+  pub contents : AllByRecursion (IsOldOrPassedSuper flagged passing old) firsts
+  pub others : drop 1 image ≡ drop 1 old
+
+-- so it is after a crash at any moment, of an image or of any other list of blocks
+abbrev pub LeavesTornAtMost : Flagged → Passing → Objects → Objects → Type 0
+LeavesTornAtMost flagged passing before after =
+    IfSome before.input.held (λ image. LeavesOnly (IsTornAtMost flagged passing image) before.input after.input)
 
 -- a repair of one image onto another was asked, and was answered with this status
 abbrev pub IsRepairAnswered : List ℕ → List ℕ → Objects → Objects → ℕ → Type 0

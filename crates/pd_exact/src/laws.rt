@@ -14,7 +14,7 @@ ghost use Rattle.pd_kinds.specs.Stages.{faults};
 ghost use Rattle.pd_laws.specs.InOrder.{LooksAtOrder};
 ghost use Rattle.pd_answers.specs.Answer.{NoFaults, Objects};
 ghost use Rattle.pd_answers.specs.Flag.{cleared, needs_check};
-ghost use Rattle.pd_exact.specs.Exact.{HoldsCleared, HoldsPoolOfText, IsCheckAnswered, IsCleared, IsClearingAnswered, IsDumpOf, IsPassed, IsPassingAnswered, IsRestoreAnswered, LeavesOldOrCleared, LeavesPoolOfText, LosesNothing, MeansTheSame, TellsClean, TellsPassed};
+ghost use Rattle.pd_exact.specs.Exact.{HoldsCleared, HoldsPoolOfText, IsCheckAnswered, IsCleared, IsClearingAnswered, IsDumpOf, IsPassed, IsPassingAnswered, IsRestoreAnswered, LeavesOldOrCleared, LeavesPoolOfText, LeavesTornAtMost, LosesNothing, MeansTheSame, TellsClean, TellsPassed};
 
 use crate::shared::laid_shapes_are_clean;
 use pd_changed::{
@@ -138,9 +138,13 @@ pub fn cleared_image_is_clean()
 }
 
 /// Under every status a crash at any moment of it leaves, by no chance, the old image, no valid superblock, or such an image.
+/// Whatever chance does, block 0 has had no other content than the old one and, where the image passes, the cleared one, so at most it is
+/// torn between the two; and all other blocks are the old ones.
 pub fn crashed_clearing_leaves_no_other_image()
-    ensures { (flagged : Flagged) (passing : Passing) (path : List ℕ) (before after : Objects) (status : ℕ) → IsClearingAnswered flagged passing path before after status
+    ensures image { (flagged : Flagged) (passing : Passing) (path : List ℕ) (before after : Objects) (status : ℕ) → IsClearingAnswered flagged passing path before after status
         → LeavesOldOrCleared flagged passing before after }
+    ensures superblock { (flagged : Flagged) (passing : Passing) (path : List ℕ) (before after : Objects) (status : ℕ) → IsClearingAnswered flagged passing path before after status
+        → LeavesTornAtMost flagged passing before after }
 {
     cleared_images_pass();
     faults_are_none_where_clean();

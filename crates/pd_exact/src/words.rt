@@ -18,7 +18,7 @@ ghost use Rattle.pd_answers.specs.Outputs.{IsWorkDone};
 ghost use Rattle.pd_answers.specs.QueryLines.{device_list_lines, rmap_lines, since_lines};
 ghost use Rattle.pd_answers.specs.Requests.{restore};
 ghost use Rattle.pd_answers.specs.Words.{Region, asked, generated_number, is_value, number_below, region_of, version_of};
-ghost use Rattle.pd_exact.specs.Exact.{HoldsCacheOfText, HoldsCleared, HoldsPoolOfText, HoldsSalvage, HoldsTargetOfText, LeavesOldOrCleared};
+ghost use Rattle.pd_exact.specs.Exact.{HoldsCacheOfText, HoldsCleared, HoldsPoolOfText, HoldsSalvage, HoldsTargetOfText, LeavesOldOrCleared, LeavesTornAtMost};
 ghost use Rattle.pd_exact.specs.NamedRoots.{HasNoStates, HoldsNamed, RootWords, SayRoots, TellsNamed, TellsStates, with_roots};
 ghost use Rattle.pd_exact.specs.Saved.{HoldsSavedCache, HoldsSavedShape, PutsKept};
 ghost use Rattle.pd_exact.specs.Sharing.{HasTimesOfSharing, IsDamagedPool, IsKeptPool, SeesSharingWhere};
@@ -117,10 +117,12 @@ pub fn cache_check_tells_what_passes()
 /// `cache_check --clear-needs-check-flag IMAGE`, and `thin_check` so, with `--ignore-non-fatal-errors` before it or not: at status 0 the
 /// image is still clean, or has leaks alone; it has the faults that it had, none up to the stage Whole and no count below its references;
 /// it means what it meant; and its flag "needs check" isn't set, with nothing unsynced. Under every status a crash at any moment leaves,
-/// by no chance, the old image, no valid superblock, or such an image.
+/// by no chance, the old image, no valid superblock, or such an image. Whatever chance does, block 0 has had no other content than the old one
+/// and, where the image passes, the cleared one, and all other blocks are the old ones.
 pub fn checks_clear_the_flag_alone()
     ensures clears { (flagged : Flagged) (passing : Passing) (image : List ℕ) (before after : Objects) → IsName image → CallEnds (check_name (kind_of flagged) ∷ (letting_pass passing ++ (codes "--clear-needs-check-flag" ∷ image ∷ []))) 0 before after → HoldsCleared flagged passing before after }
     ensures crashed { (flagged : Flagged) (passing : Passing) (image : List ℕ) (before after : Objects) (status : ℕ) → IsName image → CallEnds (check_name (kind_of flagged) ∷ (letting_pass passing ++ (codes "--clear-needs-check-flag" ∷ image ∷ []))) status before after → LeavesOldOrCleared flagged passing before after }
+    ensures torn { (flagged : Flagged) (passing : Passing) (image : List ℕ) (before after : Objects) (status : ℕ) → IsName image → CallEnds (check_name (kind_of flagged) ∷ (letting_pass passing ++ (codes "--clear-needs-check-flag" ∷ image ∷ []))) status before after → LeavesTornAtMost flagged passing before after }
 {
     cleared_image_is_clean();
     crashed_clearing_leaves_no_other_image();

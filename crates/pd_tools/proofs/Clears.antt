@@ -8,6 +8,7 @@ use Rattle.std.proofs.lemmas.Option.{IfSome_then, get_or_from_slice_get, slice_g
 use Rattle.pd_kinds.specs.declared.kind.Flagged.{Flagged}
 use Rattle.pd_kinds.specs.declared.kind.Passing.{Passing}
 use Rattle.pd_kinds.specs.declared.kind.Stage.TheVariants.{Counts}
+use Rattle.pd_kinds.specs.Graph.{block_at}
 use Rattle.pd_kinds.specs.Moments.{History}
 use Rattle.pd_kinds.specs.Objects.{DeviceState, SinkState, Appends, AppendsFront, Rose}
 use Rattle.pd_kinds.specs.Flagged.{kind_of}
@@ -16,14 +17,15 @@ use Rattle.pd_kinds.specs.Stages.{faults}
 use Rattle.pd_kinds.specs.Crash.{LeavesOnly, HoldsSynced, IsSynced, IsUntouched, StillTells}
 use Rattle.pd_kinds.proofs.AppendLemmas.{front_from_whole}
 use Rattle.pd_kinds.proofs.CrashLemmas.{and_then, stays, still_tells, weaken}
+use Rattle.pd_laws.proofs.AllLemmas.{all_from}
 use Rattle.pd_image.specs.Device.{IsWritable, MayChange}
 use Rattle.pd_image.proofs.CrashLemmas.{at_some}
-use Rattle.pd_draft.specs.Replaced.{IsReplaced}
+use Rattle.pd_draft.specs.Replaced.{IsOldOrNewFirst, IsReplaced}
 use Rattle.pd_draft.proofs.DraftLemmas.{replaced_here}
 use Rattle.pd_spells.specs.Lines.{reported_lines}
 use Rattle.pd_answers.specs.Answer.{Objects, IsUsed, reading, writing}
 use Rattle.pd_answers.specs.Terms.{is_one_of, is_possible}
-use Rattle.pd_answers.specs.Flag.{IsOldOrCleared, LeavesCleared, cleared, needs_check}
+use Rattle.pd_answers.specs.Flag.{IsOldOrCleared, IsOldOrClearedSuper, LeavesCleared, cleared, needs_check}
 use Rattle.pd_answers.specs.Promises.{check_and_clear}
 use Rattle.pd_tools.specs.declared.stop.Stop.{Stop}
 use Rattle.pd_tools.specs.declared.stop.Stop.TheVariants.{Device, Stream}
@@ -49,16 +51,28 @@ behind (block ∷ blocks) (other ∷ others) changes =
     let within' : i < length blocks = omega arith in
     get_or_from_slice_get others i (get_or blocks i []) [] (changes.others (suc i) (λ no. absurd (omega arith)) ∙ slice_get-get_or blocks i [] within'))
 
--- what is left where block 0 alone was being replaced
-outcome : (flagged : Flagged) (passed : Bool) (image made left firsts : Image) → (left ≡ made → (left ≡ image) ⊎ ((passed ≡ true) × (left ≡ cleared flagged image)))
+-- an image that replaces another one, where it is that one, or has the flag cleared of what passes
+abbrev IsSameOrCleared : Flagged → Bool → Image → Image → Type 0
+IsSameOrCleared flagged passed image made = (made ≡ image) ⊎ ((passed ≡ true) × (made ≡ cleared flagged image))
+
+-- what is left where block 0 alone was being replaced by that of such an image
+old_or_cleared : (flagged : Flagged) (passed : Bool) (image made left firsts : Image) → IsSameOrCleared flagged passed image made
     → IsReplaced image made left firsts → IsOldOrCleared flagged passed image left firsts
-outcome flagged passed image made left firsts of_made was chance =
-    ⊎_elim (λ old. inl old)
-    (λ rest. ⊎_elim
-    (λ is. ⊎_elim (λ old. inl old) (λ both. inr (inl both)) (of_made is))
-    (λ torn. inr (inr (torn.0, behind image left torn.1)))
-    rest)
-    (was chance)
+old_or_cleared flagged passed image made left firsts of_made was = record {
+  contents = all_from (IsOldOrNewFirst image made) (IsOldOrClearedSuper flagged passed image) (λ block had. ⊎_elim (λ old. inl old) (made_first block) had) firsts was.contents;
+  others = behind image left was.others;
+  outcome = λ chance.
+      ⊎_elim (λ old. inl old)
+      (λ rest. ⊎_elim
+      (λ is. ⊎_elim (λ old. inl (is ∙ old)) (λ both. inr (inl (both.0, is ∙ both.1))) of_made)
+      (λ torn. inr (inr (torn.0, behind image left torn.1)))
+      rest)
+      (was.outcome chance);
+}
+  where
+    made_first : (block : List ℕ) → block ≡ block_at made 0 → IsOldOrClearedSuper flagged passed image block
+    made_first block is =
+        ⊎_elim (λ old. inl (is ∙ ap (λ (i : Image). block_at i 0) old)) (λ both. inr (both.0, is ∙ ap (λ (i : Image). block_at i 0) both.1)) of_made
 
 module _ (flagged : Flagged) (passing : Passing) (report : Reported) (old new : DeviceState) (synced : IsSynced old) where
   -- a device that was left alone
@@ -66,7 +80,7 @@ module _ (flagged : Flagged) (passing : Passing) (report : Reported) (old new : 
   untouched_left status some same = record {
     told = still_tells old new (ap is_some same.held);
     crash = IfSome_then old.held synced (λ image s.
-        weaken (stays same.held same.history (replaced_here image image old s)) (λ left firsts. outcome flagged (passes passing report) image image left firsts (λ is. inl is)));
+        weaken (stays same.held same.history (replaced_here image image old s)) (λ left firsts. old_or_cleared flagged (passes passing report) image image left firsts (inl refl)));
     done = λ zero. absurd (some zero);
     unset = IfSome_then old.held synced (λ image s unset. same);
     reported = λ _. same;
@@ -83,7 +97,7 @@ module _ (flagged : Flagged) (passing : Passing) (report : Reported) (old new : 
   cleared_left none told crash unset status done kept = record {
     told = told;
     crash = IfSome_then old.held synced (λ image s.
-        weaken (crash image s) (λ left firsts. outcome flagged (passes passing report) image (cleared flagged image) left firsts (λ is. inr (none, is))));
+        weaken (crash image s) (λ left firsts. old_or_cleared flagged (passes passing report) image (cleared flagged image) left firsts (inr (none, refl))));
     done = λ zero. IfSome_then old.held synced (done zero);
     unset = unset;
     reported = λ other. absurd (true≢false (sym none ∙ other));
@@ -96,7 +110,7 @@ pub left_before : (flagged : Flagged) (passing : Passing) (report : Reported) (s
 left_before flagged passing report status old read new synced same faults left = record {
   told = subst (λ (h : Option Image). IfSome h (λ image. IsSome new.held)) same.held left.told;
   crash = IfSome_then old.held synced (λ image s.
-      and_then (stays same.held same.history (λ left firsts leaves. outcome flagged (passes passing report) image image left firsts (λ is. inl is) (replaced_here image image old s left firsts leaves)))
+      and_then (stays same.held same.history (λ left firsts leaves. old_or_cleared flagged (passes passing report) image image left firsts (inl refl) (replaced_here image image old s left firsts leaves)))
       (at_some read.held (λ (i : Image). LeavesOnly (IsOldOrCleared flagged (passes passing report) i) read new) image (same.held ∙ s.held) left.crash));
   done = λ zero. IfSome_then old.held synced (λ image s.
       at_some read.held (λ (i : Image). HoldsSynced (cleared flagged i) new) image (same.held ∙ s.held) (left.done zero));
