@@ -1,9 +1,10 @@
-//! The time of a pool that is saved by a superblock without one.
+//! The times of a pool that is saved by a superblock without one.
 
-ghost use Rattle.std.specs.Prelude.{◌≡◌, ◌++◌, ◌^◌, ◌≤◌, ℕ, List, max, map, fold, IfOk, IfSome};
+ghost use Rattle.std.specs.Prelude.{◌≡◌, ◌++◌, ◌^◌, ◌≤◌, ℕ, List, max, min, map, fold, IfOk, IfSome};
 ghost use Rattle.std.specs.List.{flat_map};
 ghost use Rattle.pd_image.specs.Device.{IsAttached, OnlyReads};
-ghost use Rattle.pd_answers.specs.NamedRoots.{saved_time};
+ghost use Rattle.pd_answers.specs.NamedRoots.{pool_time, saved_time};
+ghost use Rattle.pd_answers.specs.Seen.{raised_time};
 ghost use Rattle.pd_salvage.specs.Faults.{CountsSalvage};
 ghost use Rattle.pd_kept.specs.Latest.{latest_of_shape, own_times, time_by, times_of_run, times_of_runs};
 ghost use Rattle.pd_kept.specs.Stored.{AreStored, pair_of};
@@ -19,9 +20,21 @@ use pd_saved_shapes::saved_shapes_mean_what_is_saved;
 use pd_thin_meaning::Run;
 use std::alloc::Global;
 
-/// The time that the pool has which is saved with this superblock, where none is known: the latest time of its mappings, and
-/// at which a device was made or last shared. Where a device has lost its details it is one more, up to 2^32 - 1, as a mapping
-/// of the latest time may be shared then.
+/// The greatest time that a mapping can have, which has 24 bits for it. A pool's time isn't raised past it.
+const GREATEST_TIME: u32 = (1 << 24) - 1;
+
+/// The times of a pool that is saved by a superblock without one.
+#[derive(Clone, Copy, Debug, PartialEq, Eq)]
+pub struct SavedTimes {
+    /// The one at which devices were made and last shared that have lost their details.
+    pub lost: u32,
+    /// The pool's own.
+    pub pool: u32,
+}
+
+/// The times of the pool that is saved with this superblock, where none is known: the latest time of its mappings, and at
+/// which a device was made or last shared. Where a device has lost its details they are one more, as a mapping of the latest
+/// time may be shared then: that of lost details up to 2^32 - 1, and the pool's up to the greatest time of a mapping.
 ///
 /// It reads as a repair with shared leaves does, and the details once more, and takes the memory of what that saves and 16
 /// bytes for each device that has details.
@@ -31,33 +44,46 @@ pub fn time_of_saved<D: Device>(
     alloc: Global,
     dev: &mut D,
     s: &ThinSuper,
-) -> Result<u32, SalvageFault>
+) -> Result<SavedTimes, SalvageFault>
     requires attached { IsAttached (D.state dev.old) }
     requires within { s.now.meta_map.blocks ≤ (D.state dev.old).blocks }
     requires few { s.now.meta_map.blocks ≤ 4161600 }
     requires data { s.now.data_map.blocks ≤ 2 ^ 40 }
-    ensures told { IfOk result (λ time. IfSome (D.state dev.old).held (λ image. time ≡ saved_time s.now image)) }
+    ensures lost { IfOk result (λ times. IfSome (D.state dev.old).held (λ image. times.lost ≡ saved_time s.now image)) }
+    ensures pool { IfOk result (λ times. IfSome (D.state dev.old).held (λ image. times.pool ≡ pool_time s.now image)) }
     ensures kept { OnlyReads (D.state dev.old) (D.state dev.new) }
     ensures faults { CountsSalvage result (D.state dev.old).faults (D.state dev.new).faults }
 {
     saved_shapes_mean_what_is_saved();
     let saved = salvage_shape(alloc, dev, s)?;
     let stored = read_stored(alloc, dev, s)?;
-    Ok(time_of(&saved, stored.as_slice()))
+    Ok(times_of(&saved, stored.as_slice()))
 }
 
-/// The time of what is saved, where these are the devices that have details.
-fn time_of(saved: &SavedShape, stored: &[StoredNumber]) -> u32
+/// The times of what is saved, where these are the devices that have details.
+fn times_of(saved: &SavedShape, stored: &[StoredNumber]) -> SavedTimes
     requires { AreStored 0 (map pair_of stored.now) }
-    ensures { result ≡ time_by saved.now stored.now }
+    ensures lost { result.lost ≡ time_by saved.now stored.now }
+    ensures pool { result.pool ≡ raised_time (latest_of_shape saved.now) (time_by saved.now stored.now) }
 {
     // For the proof alone, which learns here that the devices' ids ascend.
     let _ = saved.head();
     let latest = latest_time(saved);
     if lacks_details(saved.devices(), stored) {
-        latest.saturating_add(1)
+        times_from(latest, latest.saturating_add(1))
     } else {
-        latest
+        times_from(latest, latest)
+    }
+}
+
+/// The times where this is the latest one, and that which lost details get.
+fn times_from(latest: u32, lost: u32) -> SavedTimes
+    ensures lost { result.lost ≡ lost }
+    ensures pool { result.pool ≡ raised_time latest lost }
+{
+    SavedTimes {
+        lost,
+        pool: latest.max(lost.min(GREATEST_TIME)),
     }
 }
 

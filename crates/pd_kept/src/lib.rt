@@ -16,7 +16,7 @@ mod tests;
 mod weighing;
 
 pub use kept::{Kept, KeptDevice};
-pub use latest::time_of_saved;
+pub use latest::{SavedTimes, time_of_saved};
 pub use lines::put_kept;
 pub use query::KeptOfPool;
 pub use room::least_room;
