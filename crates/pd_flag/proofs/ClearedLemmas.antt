@@ -5,7 +5,6 @@ use Rattle.std.specs.List.{slice_get}
 use Rattle.std.specs.Option.{unwrap_or}
 use Rattle.std.proofs.lemmas.Bool.{true≢false}
 use Rattle.std.proofs.lemmas.Option.{IfSome_then, same_Some}
-use Rattle.pd_kinds.specs.Field.{le}
 use Rattle.pd_kinds.specs.Moments.{History}
 use Rattle.pd_kinds.specs.Objects.{DeviceState}
 use Rattle.pd_kinds.specs.Crash.{LeavesOnly, HoldsSynced}
