@@ -1,3 +1,4 @@
+-- Trusted base.
 -- What the calls of a sink leave.
 use Rattle.std.specs.Prelude.{◌≡◌, ℕ, Bool, if◌then◌else◌, List, IfSome}
 use Rattle.pd_kinds.specs.Objects.{SinkState}

@@ -1,3 +1,4 @@
+-- Trusted base.
 -- What the calls of a source leave and give.
 use Rattle.std.specs.Prelude.{◌≡◌, ℕ, ◌≤◌, Bool, if◌then◌else◌, List, [], length, take, drop, Option, Some, IfSome}
 use Rattle.pd_kinds.specs.Objects.{SourceState}
