@@ -1107,6 +1107,16 @@ for version in '' 1 2; do
     try 0 cache_restore --metadata-version "${version:-2}" -i cache.txt -o again.img
     [ -z "$version" ] || same new.img again.img
 done
+
+# of one that wasn't shut down each entry counts as dirty
+sed '2s/^\(cache [^ ]* [0-9]* [0-9]*\) 1 /\1 0 /' cache.txt >open.txt
+zeros open.img 512
+try 0 cache_restore -i open.txt -o open.img
+zeros new.img 512
+try 0 cache_repair -i open.img -o new.img
+out "keeps $entries of $blocks blocks, $entries dirty"
+try 0 cache_dump new.img
+same out open.txt
 {
     printf '%s\n' 'cache 1' 'cache 00000000-0000-0000-0000-000000000000 128 600 1 736d7100000000000000000000000000 2 0 0 4'
     awk 'BEGIN { for (i = 0; i < 600; i++) print "map", i, 2 * i, i % 2, i + 1 }'

@@ -87,7 +87,12 @@ const SOUND: &[Sound] = &[
     (SECOND, TWO_MAPPED, "keeps 2 of 510 blocks, 1 dirty\n"),
     (FIRST, EMPTY, "keeps 0 of 0 blocks, 0 dirty\n"),
     (SECOND, EMPTY, "keeps 0 of 0 blocks, 0 dirty\n"),
+    // Of a cache that wasn't shut down each entry counts as dirty.
+    (SECOND, NOT_SHUT_DOWN, BOTH_DIRTY),
 ];
+
+const NOT_SHUT_DOWN: &str =
+    "cache 1\ncache 00000000-0000-0000-0000-000000000000 128 510 0 736d7100000000000000000000000000 2 0 0 4\nmap 0 7 0 5\nmap 509 8 1 6\nend\n";
 
 /// A sound cache is made again block by block, in its version or another one, also one that wasn't shut down.
 fn expect_made_again(alloc: Global, row: &Sound) -> Result<(), Fail> {

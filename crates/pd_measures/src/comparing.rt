@@ -1,13 +1,13 @@
 //! Whether a mapping tree and a details tree have one list of devices, entry by entry.
 
-ghost use Rattle.std.specs.Prelude.{◌≡◌, ◌↔◌, ℕ, ◌+◌, ◌<◌, ◌≤◌, true, length, None, IfOk, IfSome, OnOk};
+ghost use Rattle.std.specs.Prelude.{◌≡◌, ◌↔◌, ℕ, ◌+◌, ◌<◌, ◌≤◌, true, List, length, None, IfOk, IfSome, OnOk};
 ghost use Rattle.std.specs.List.{AllByRecursion};
 ghost use Rattle.pd_kinds.specs.Node.{Entry};
 ghost use Rattle.pd_kinds.specs.Objects.{CountsFault};
 ghost use Rattle.pd_kinds.specs.Whole.{top_entries};
 ghost use Rattle.pd_laid.specs.FoundRoots.{are_fitting, is_sound_tree, lost_graph};
 ghost use Rattle.pd_image.specs.Device.{IsAttached, OnlyReads};
-ghost use Rattle.pd_tree.specs.Below.{nodes_below};
+ghost use Rattle.pd_tree.specs.Below.{items_below, nodes_below};
 ghost use Rattle.pd_tree.specs.Cursor.{cursor_items, cursor_number};
 ghost use Rattle.pd_tree.specs.Items.{root_of};
 ghost use Rattle.pd_tree.specs.Next.{IsNext};
@@ -32,9 +32,12 @@ pub struct ListCursors {
 }
 
 impl ListCursors {
-    /// Both cursors, with no tree yet: they reserve all memory that they need, about 530 KiB, and use it as far as their
-    /// trees are deep. Want of it is the only error.
-    pub fn new(alloc: Global) -> Result<ListCursors, AllocError> {
+    /// Both cursors, before the first entry of a tree with the root 0, until they are given others: they reserve all memory that they
+    /// need, about 530 KiB, and use it as far as their trees are deep. Want of it is the only error.
+    pub fn new(alloc: Global) -> Result<ListCursors, AllocError>
+        ensures tops { (image : List (List ℕ)) → IfOk result (λ cursors. cursor_items 8 root_of image cursors.tops ≡ items_below 8 root_of image 63 0) }
+        ensures details { (image : List (List ℕ)) → IfOk result (λ cursors. cursor_items 24 details_of image cursors.details ≡ items_below 24 details_of image 63 0) }
+    {
         Ok(ListCursors {
             tops: Cursor::start(alloc, 0)?,
             details: Cursor::start(alloc, 0)?,

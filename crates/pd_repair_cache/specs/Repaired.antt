@@ -6,10 +6,11 @@ use Rattle.pd_kinds.specs.declared.kind.Stage.TheVariants.{Super}
 use Rattle.pd_kinds.specs.CacheFormat.{CacheFields, cache_fields}
 use Rattle.pd_kinds.specs.Graph.{block_at}
 use Rattle.pd_kinds.specs.Limits.{room_of}
-use Rattle.pd_kinds.specs.Meaning.{CacheEntry, CacheMeaning}
+use Rattle.pd_kinds.specs.Meaning.{CacheMeaning}
 use Rattle.pd_kinds.specs.Objects.{DeviceState}
 use Rattle.pd_kinds.specs.Stages.{faults}
 use Rattle.pd_laid.specs.SavedCache.{saved_cache, saved_cache_from}
+use Rattle.pd_answers.specs.CachedView.{is_hot}
 use Rattle.pd_spells.specs.CacheNeed.{cache_need}
 use Rattle.pd_repair.specs.declared.fault.RepairFault.{RepairFault}
 use Rattle.pd_repair.specs.Faults.{output_ending}
@@ -17,11 +18,11 @@ use Rattle.pd_repair.specs.Repaired.{AnswersSuper}
 use Rattle.pd_restore_cache.specs.Made.{IsCacheMadeOf}
 use Rattle.pd_repair_cache.specs.declared.kept.KeptCache.{KeptCache}
 
--- how much is kept of a cache
+-- how much is kept of a cache; an entry counts as dirty where a kernel takes it for dirty
 pub record IsKept (kept : KeptCache) (m : CacheMeaning) : Type 0 where
   pub entries : kept.entries ≡ length m.entries
   pub blocks : kept.blocks ≡ m.blocks
-  pub dirty : kept.dirty ≡ count_by (λ (e : CacheEntry). e.dirty) m.entries
+  pub dirty : kept.dirty ≡ count_by (is_hot m) m.entries
 
 -- a repair from a superblock of these fields: what is saved is written in the version that is asked for, or else in the
 -- superblock's own

@@ -1,6 +1,6 @@
 //! What a repair kept of a cache.
 
-ghost use Rattle.std.specs.Prelude.{◌≡◌, count_by};
+ghost use Rattle.std.specs.Prelude.{◌≡◌, ◌||◌, not, count_by};
 ghost use Rattle.pd_cache_salvage.specs.declared.row.Row.{Row as CacheRow};
 ghost use Rattle.pd_cache_salvage.specs.SavedCache.{held_cache};
 ghost use Rattle.pd_repair_cache.specs.Repaired.{IsKept};
@@ -14,7 +14,7 @@ pub struct KeptCache {
     pub entries: u64,
     /// The number of cache blocks.
     pub blocks: u32,
-    /// The number of dirty entries.
+    /// The number of entries that a kernel takes for dirty: where the cache wasn't shut down, that is each of them.
     pub dirty: u64,
 }
 
@@ -23,16 +23,17 @@ pub(crate) fn kept_of(saved: &SavedCache) -> KeptCache
     ensures { IsKept result (held_cache saved.now) }
 {
     let rows = saved.rows();
+    let head = saved.head();
     KeptCache {
         entries: rows.len() as u64,
-        blocks: saved.head().blocks,
-        dirty: dirty_in(rows),
+        blocks: head.blocks,
+        dirty: dirty_in(rows, head.clean),
     }
 }
 
-/// How many of these entries are dirty.
-fn dirty_in(rows: &[Row]) -> u64
-    ensures { result ≡ count_by (λ (row : CacheRow). row.dirty) rows.now }
+/// How many of these entries a kernel takes for dirty. It trusts what is said of them only where the cache was shut down.
+fn dirty_in(rows: &[Row], clean: bool) -> u64
+    ensures { result ≡ count_by (λ (row : CacheRow). row.dirty || not clean) rows.now }
 {
-    rows.iter().filter(|row| row.dirty).count() as u64
+    rows.iter().filter(|row| row.dirty | !clean).count() as u64
 }
