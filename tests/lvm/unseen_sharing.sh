@@ -3,8 +3,8 @@
 # mappings with the older details, by which a kernel would not see that the volume shares a block with the snapshot. The pool that
 # the search makes sees it: a write to the volume leaves the snapshot as it was.
 # disks: vda:1G vdb:64M
-ask() { L dmsetup message vg-pool-tpool 0 "$1"; }
-thin() { L dmsetup create "$1" --table "0 262144 thin /dev/mapper/vg-pool-tpool $2"; }
+ask() { L dmsetup message vg-pool 0 "$1"; }
+thin() { L dmsetup create "$1" --table "0 262144 thin /dev/mapper/vg-pool $2"; }
 # makes the snapshot 2 of the volume 1
 snap() {
     L dmsetup suspend volume
