@@ -1,7 +1,7 @@
 -- The three outcomes of a crash, from what is left at each moment.
 use Rattle.std.proofs.Common.{◌≡◌, inl, inr, ⊎_elim, ℕ, zero, suc, ◌<◌, ◌≤◌, Bool, true, false, List, [], ◌∷◌, length, take, get_or, set, refl, sym, ◌∙◌, ap, subst, arith, Option, Some, Result, Ok, Err, cond}
 use Rattle.std.specs.Prelude.{nat_eq, IfSome, ◌||◌, OnOk}
-use Rattle.std.specs.List.{list_any, slice_get}
+use Rattle.std.specs.List.{AllByRecursion, list_any, slice_get}
 use Rattle.std.specs.Option.{is_some, unwrap_or}
 use Rattle.std.proofs.lemmas.Bool.{cases_lt, eqb-true, eqb-false}
 use Rattle.std.proofs.lemmas.List.{ext_get_or, get_or-set_same, length-set}
@@ -17,7 +17,7 @@ use Rattle.pd_kinds.proofs.CrashLemmas.{left_synced, left_now, left_is, left_hel
 use Rattle.pd_image.specs.Device.{MayChange, MayWrite}
 use Rattle.pd_image.proofs.CrashLemmas.{told_or_not, is_none_too, at_some, writes, syncs}
 use Rattle.pd_draft.specs.Closed.{HasZeros, IsClosed}
-use Rattle.pd_draft.specs.Replaced.{IsReplaced}
+use Rattle.pd_draft.specs.Replaced.{IsOldOrNewFirst, IsReplaced}
 
 abbrev Image : Type 0
 Image = List (List ℕ)
@@ -43,12 +43,11 @@ or_false true r not_so isnt = absurd (not_so refl)
 or_false false r not_so isnt = isnt
 
 -- what is left where block 0 alone is unsynced
-pub others_left : (image left : Image) (m : Moment) → m.image ≡ image → m.unsynced ≡ 0 ∷ [] → IsLeft m left
-    → (length left ≡ length image) × ((b : ℕ) → (b ≡ 0 → ⊥) → slice_get left b ≡ slice_get image b)
-others_left image left m is one l = (
-  l.number ∙ ap (λ (i : Image). length i) is,
-  λ b past. l.synced b (ap (list_any (λ u. nat_eq u b)) one ∙ not_zero b past) ∙ ap (λ (i : Image). slice_get i b) is,
-)
+pub others_left : (image left : Image) (m : Moment) → m.image ≡ image → m.unsynced ≡ 0 ∷ [] → IsLeft m left → MayChange 0 image left
+others_left image left m is one l = record {
+  number = l.number ∙ ap (λ (i : Image). length i) is;
+  others = λ b past. l.synced b (ap (list_any (λ u. nat_eq u b)) one ∙ not_zero b past) ∙ ap (λ (i : Image). slice_get i b) is;
+}
   where
     not_zero : (b : ℕ) → (b ≡ 0 → ⊥) → list_any (λ u. nat_eq u b) (0 ∷ []) ≡ false
     not_zero b past = or_false (nat_eq 0 b) false (λ same. absurd (past (sym (eqb-true 0 b same)))) refl
@@ -127,20 +126,20 @@ closed_by (Err e) old new bytes are_zeros done told some measured = tt
 -- where block 0 was replaced by zeros, a crash left the old image or no valid superblock
 pub cleared : (image : Image) (bytes : List ℕ) → bytes ≡ zeros → 1 ≤ length image → (left firsts : Image)
     → IsReplaced image (set image 0 bytes) left firsts → IsOldOrNone image left firsts
-cleared image bytes are_zeros some left firsts outcome chance =
+cleared image bytes are_zeros some left firsts replaced chance =
     ⊎_elim (λ old. inl old)
     (λ rest. inr (⊎_elim
     (λ new. zeros_none left firsts (ap (λ (i : Image). slice_get i 0) (new ∙ ap (λ (z : List ℕ). set image 0 z) are_zeros) ∙ set_zeros image some))
     (λ torn. torn.0)
     rest))
-    (outcome chance)
+    (replaced.outcome chance)
 
 -- where zeros in block 0 were replaced, a crash left no valid superblock or the new image
 pub finished : (image made : Image) → slice_get image 0 ≡ Some zeros → (left firsts : Image) → IsReplaced image made left firsts → IsNoneOrNew made left firsts
-finished image made zeroed left firsts outcome chance =
+finished image made zeroed left firsts replaced chance =
     ⊎_elim (λ old. inl (zeros_none left firsts (ap (λ (i : Image). slice_get i 0) old ∙ zeroed)))
     (λ rest. ⊎_elim (λ new. inr new) (λ torn. inl torn.0) rest)
-    (outcome chance)
+    (replaced.outcome chance)
 
 -- what a device holds whose block 0 is closed
 pub closed_held : (image : Image) (device : DeviceState) → IsClosed device → device.held ≡ Some image → slice_get image 0 ≡ Some zeros
@@ -159,25 +158,69 @@ pub place_write : {old new : DeviceState} (b : ℕ) (bytes : List ℕ) → 1 ≤
 place_write {old} {new} b bytes past closed crash told others =
     writes b bytes crash told others closed (λ i held left l. torn_place old i left b bytes past closed held l)
 
+-- what block 0 of a synced image has had is the old one, or, where the image is the new one, the new one
+firsts_old : (image made : Image) → AllByRecursion (IsOldOrNewFirst image made) (take 1 image)
+firsts_old [] made = tt
+firsts_old (first ∷ image) made = (inl refl, tt)
+
+firsts_new : (image made : Image) → AllByRecursion (IsOldOrNewFirst image made) (take 1 made)
+firsts_new image [] = tt
+firsts_new image (first ∷ made) = (inr refl, tt)
+
+-- block 0 of an image that has one, once it is replaced
+first_set : (image : Image) (bytes : List ℕ) → 1 ≤ length image → bytes ≡ block_at (set image 0 bytes) 0
+first_set [] bytes some = absurd (omega arith)
+first_set (first ∷ image) bytes some = refl
+
+others_set : (image : Image) (bytes : List ℕ) → MayChange 0 image (set image 0 bytes)
+others_set image bytes = record {
+  number = length-set image 0 bytes;
+  others = λ b past. slice_get-set_other image 0 b bytes past;
+}
+
+-- what a synced image leaves, and what the one leaves that replaced it
+replaced_none : (image made left firsts : Image) → left ≡ image → firsts ≡ take 1 image → IsReplaced image made left firsts
+replaced_none image made left firsts is had = record {
+  contents = subst (AllByRecursion (IsOldOrNewFirst image made)) (sym had) (firsts_old image made);
+  others = record { number = ap (λ (i : Image). length i) is; others = λ b past. ap (λ (i : Image). slice_get i b) is };
+  outcome = λ chance. inl is;
+}
+
+replaced_whole : (image : Image) (bytes : List ℕ) (left : Image) → left ≡ set image 0 bytes → IsReplaced image (set image 0 bytes) left (take 1 left)
+replaced_whole image bytes left is = rw is (record {
+  contents = firsts_new image (set image 0 bytes);
+  others = others_set image bytes;
+  outcome = λ chance. inr (inl refl);
+})
+
 -- block 0 of a synced image was being replaced
 pub torn_replaced : (image left : Image) (bytes : List ℕ) (h : History) → h.unsynced ≡ [] → h.firsts ≡ take 1 image → 1 ≤ length image
     → IsLeft (present_moment image (after_write 0 bytes image h)) left → IsReplaced image (set image 0 bytes) left (bytes ∷ h.firsts)
-torn_replaced image left bytes h none firsts some l chance =
-    let others = others_left image left (present_moment image (after_write 0 bytes image h)) refl (ap (λ (us : List ℕ). 0 ∷ us) none) l in
-    let within : 0 < length image = omega arith in
-    ⊎_elim
-    (λ among. ⊎_elim
-    (λ new. inr (inl (same_image left (set image 0 bytes) (others.0 ∙ sym (length-set image 0 bytes))
-    (λ b past. others.1 b past ∙ sym (slice_get-set_other image 0 b bytes past))
-    (new ∙ sym (unwrap_or-slice_get (set image 0 bytes) 0 [] ∙ get_or-set_same image 0 bytes [] within)))))
-    (λ was. inl (same_image left image others.0 others.1 (among_first image (block_at left 0) (subst (λ (f : Image). IsAmong f (block_at left 0)) firsts was))))
-    among)
-    (λ no_super. inr (inr (no_super, record { number = others.0; others = others.1 })))
-    chance
+torn_replaced image left bytes h none firsts some l = record {
+  contents = (inr first, subst (AllByRecursion (IsOldOrNewFirst image (set image 0 bytes))) (sym firsts) (firsts_old image (set image 0 bytes)));
+  others = kept;
+  outcome = λ chance.
+      ⊎_elim
+      (λ among. ⊎_elim
+      (λ new. inr (inl (same_image left (set image 0 bytes) (kept.number ∙ sym (length-set image 0 bytes))
+      (λ b past. kept.others b past ∙ sym ((others_set image bytes).others b past))
+      (new ∙ first))))
+      (λ was. inl (same_image left image kept.number kept.others (among_first image (block_at left 0) (subst (λ (f : Image). IsAmong f (block_at left 0)) firsts was))))
+      among)
+      (λ no_super. inr (inr (no_super, kept)))
+      chance;
+}
+  where
+    kept : MayChange 0 image left
+    kept = others_left image left (present_moment image (after_write 0 bytes image h)) refl (ap (λ (us : List ℕ). 0 ∷ us) none) l
+
+    first : bytes ≡ block_at (set image 0 bytes) 0
+    first = first_set image bytes some
 
 pub replaced_here : (image made : Image) (old : DeviceState) → HoldsSynced image old → LeavesNow (IsReplaced image made) old
-replaced_here image made old synced left firsts leaves chance =
-    inl (left_synced image left (present_moment image old.history) refl synced.unsynced (left_now old image left firsts synced.held leaves).0)
+replaced_here image made old synced left firsts leaves =
+    let now = left_now old image left firsts synced.held leaves in
+    replaced_none image made left firsts (left_synced image left (present_moment image old.history) refl synced.unsynced now.0) (now.1 ∙ synced.firsts)
 
 pub replaced_write : (image : Image) (bytes : List ℕ) {old new : DeviceState} → HoldsSynced image old → 1 ≤ length image → IfSome old.held (λ i. MayWrite 0 bytes i old new)
     → is_some new.held ≡ is_some old.held → IfSome old.held (λ i. IfSome new.held (MayChange 0 i)) → LeavesOnly (IsReplaced image (set image 0 bytes)) old new
@@ -191,4 +234,4 @@ pub replaced_last : (image : Image) (bytes : List ℕ) {old mid new : DeviceStat
     → mid.held ≡ Some (set image 0 bytes)
     → IfSome mid.held (λ i. new.history ≡ cond ok (after_sync i mid.history) mid.history) → new.held ≡ mid.held → LeavesOnly (IsReplaced image (set image 0 bytes)) old new
 replaced_last image bytes {old} {mid} {new} ok so_far held crash same =
-    and_then so_far (syncs ok crash same so_far.now (λ i is chance. inr (inl (same_Some i (set image 0 bytes) (sym is ∙ held)))))
+    and_then so_far (syncs ok crash same so_far.now (λ i is. replaced_whole image bytes i (same_Some i (set image 0 bytes) (sym is ∙ held))))
