@@ -6,10 +6,10 @@ use Rattle.std.proofs.lemmas.List.Elements.{All-cons, All-contains, All-filter, 
 use Rattle.pd_kinds.specs.Node.{Entry}
 use Rattle.pd_laid.specs.Saved.{ContainsEntry}
 
-first_among : {X : Type 0} (x : X) (xs : List X) → Contains (x ∷ xs) x
+pub first_among : {X : Type 0} (x : X) (xs : List X) → Contains (x ∷ xs) x
 first_among x xs = (0, omega arith, refl)
 
-later_among : {X : Type 0} (y x : X) (xs : List X) → Contains xs x → Contains (y ∷ xs) x
+pub later_among : {X : Type 0} (y x : X) (xs : List X) → Contains xs x → Contains (y ∷ xs) x
 later_among y x xs here = Contains-append_right (y ∷ []) xs x here
 
 -- an item of a list that was mapped comes from an item

@@ -10,6 +10,7 @@ use Rattle.pd_laid.specs.FoundRoots.{FoundRoots, AreBest, found_pool, is_greater
 use Rattle.pd_answers.specs.Answer.{Objects}
 use Rattle.pd_exact.specs.Search.{HasNoRoots, HoldsFoundPool, HoldsNoEarlier, HoldsOfRoots, IsLostPool, IsOfBest, IsPoolOf, KeepsRoots, state_of, state_of_roots}
 use Rattle.pd_exact.proofs.Restored.{Image, at_told}
+use Rattle.pd_exact.proofs.SeenLemmas.{seen_no_earlier}
 
 -- the state of the best roots is that of their pool
 best_state : (image : Image) (transaction block_size blocks : ℕ) (roots : FoundRoots) → AreBest (lost_graph image blocks) image roots
@@ -32,10 +33,11 @@ module _ (image lost : Image) (transaction block_size : ℕ) (before after : Obj
   no_earlier made of =
       let late = keeps.found (Some of.roots) of.best in
       let same = same_Some of.roots late.roots late.some in
-      let state : state_of_roots late.roots ≡ state_of (thin_meaning made) =
-      sym (ap (λ (r : FoundRoots). state_of_roots r) same)
-      ∙ (best_state lost transaction block_size blocks of.roots of.best ∙ sym (ap (λ (m : ThinPool). state_of m) of.pool.means)) in
-      subst (λ (s : List ℕ). is_greater (state_of (thin_meaning image)) s ≡ false) state late.no_earlier
+      let found = found_pool (lost_graph lost blocks) lost transaction block_size of.roots in
+      let state : state_of_roots late.roots ≡ state_of found =
+      sym (ap (λ (r : FoundRoots). state_of_roots r) same) ∙ best_state lost transaction block_size blocks of.roots of.best in
+      let before = subst (λ (s : List ℕ). is_greater (state_of (thin_meaning image)) s ≡ false) state late.no_earlier in
+      subst (λ (m : ThinPool). is_greater (state_of (thin_meaning image)) (state_of m) ≡ false) (sym of.pool.means) (seen_no_earlier (state_of (thin_meaning image)) found before)
 
   pub holds_no_earlier : HoldsFoundPool transaction block_size blocks before after → HoldsNoEarlier image before after
   holds_no_earlier holds =

@@ -1,5 +1,5 @@
 -- What is saved from named roots.
-use Rattle.std.proofs.Common.{◌≡◌, ℕ, ◌+◌, ◌-◌, ◌^◌, ◌<◌, ◌≤◌, max, min, Bool, true, false, cond, List, [], ◌∷◌, length, refl, sym, ap, subst, ◌∙◌, arith}
+use Rattle.std.proofs.Common.{◌≡◌, ℕ, ◌+◌, ◌-◌, ◌^◌, ◌<◌, ◌≤◌, max, min, Bool, true, false, cond, List, [], ◌∷◌, length, refl, sym, ap, ap₂, subst, ◌∙◌, arith}
 use Rattle.std.specs.List.{flat_map}
 use Rattle.std.specs.Prelude.{fold}
 use Rattle.std.proofs.lemmas.List.Elements.{All-replicate}
@@ -13,47 +13,63 @@ use Rattle.pd_laid.specs.FoundRoots.{FoundRoots, are_fitting, found_pool, lost_g
 use Rattle.pd_laid.specs.Laid.{IsLaid}
 use Rattle.pd_laid.specs.LaidThin.{laid_pool}
 use Rattle.pd_laid.specs.Salvage.{salvage_from}
+use Rattle.pd_laid.specs.Shape.{IsShape, ThinShape, pool_of}
 use Rattle.pd_laid_thin.specs.CleanPool.{IsCleanPool}
 use Rattle.pd_shapes.specs.PoolText.{IsLawfulShape}
 use Rattle.pd_shapes.specs.SavedShape.{saved_shape_from}
 use Rattle.pd_spells.specs.Lawful.{IsLawfulPool}
 use Rattle.pd_spells.specs.ThinNeed.{thin_need}
-use Rattle.pd_answers.specs.NamedRepairs.{saved_from_named}
-use Rattle.pd_answers.specs.NamedRoots.{GivenSuper, NamedRoots, lacks_details, latest_time, named_fields, saved_time, timeless_fields}
+use Rattle.pd_answers.specs.NamedRepairs.{named_pool, named_shape, saved_from_named}
+use Rattle.pd_answers.specs.NamedRoots.{GivenSuper, NamedRoots, lacks_details, latest_time, named_fields, pool_time, saved_time, timeless_fields}
 use Rattle.pd_answers.specs.Repairs.{saved_making}
 use Rattle.pd_answers.specs.Searches.{found_fields, found_shape}
+use Rattle.pd_answers.specs.Seen.{seen_pool, seen_shape, timed_pool, timed_shape}
 use Rattle.pd_scan.specs.Roots.{lost_fields}
-use Rattle.pd_exact.specs.NamedRoots.{IsSavedFrom, named_pool, named_shape}
+use Rattle.pd_exact.specs.NamedRoots.{IsSavedFrom}
 use Rattle.pd_exact.specs.Search.{DoNumbersFit}
 use Rattle.pd_exact.proofs.FoundLawful.{SavesFound, all_times, latest_fits}
 use Rattle.pd_exact.proofs.Repaired.{IsMadeSo}
 use Rattle.pd_exact.proofs.Restored.{Image}
 use Rattle.pd_exact.proofs.SalvageLawful.{devices_lawful}
+use Rattle.pd_exact.proofs.SeenLemmas.{seen_pool_lawful, seen_shape_lawful, shape_means, shared_twice}
 use Rattle.pd_exact.proofs.SharedRepaired.{AreLaidClean, AreShapes, AreTwice, MeanSaved, found_are_lost, keeps}
+
+-- a shape with another time
+timed_means : (time : ℕ) (w : ThinShape) → pool_of (timed_shape time w) ≡ timed_pool time (pool_of w)
+unfolding pool_of
+timed_means time w = refl
+
+timed_is_shape : (time : ℕ) (w : ThinShape) → IsShape w → IsShape (timed_shape time w)
+timed_is_shape time w is = record { numbers_fit = is.numbers_fit; filled = is.filled; few = is.few; pieces = is.pieces; used = is.used }
 
 module _ (image : Image) (given : GivenSuper) (named : NamedRoots) (is : IsImage image) (fit : DoNumbersFit given.transaction given.block_size given.blocks) where
   few_blocks : (timeless_fields image given named).meta_map.blocks ≤ MAX_META_BLOCKS
   unfolding lost_graph graph_of
   few_blocks = omega arith
 
+  latest_time_fits : latest_time (timeless_fields image given named) image < 2 ^ 32
+  latest_time_fits = latest_fits 0 _ (omega arith) (all_times _ 0 _ (devices_lawful (timeless_fields image given named) image is.bytes few_blocks fit.transaction_fits (omega arith)))
+
   -- the time fits 32 bits
-  time_fits : saved_time (timeless_fields image given named) image < 2 ^ 32
+  pub time_fits : saved_time (timeless_fields image given named) image < 2 ^ 32
   unfolding saved_time
   time_fits = by (lacks_details (timeless_fields image given named) image)
     where
-      latest : latest_time (timeless_fields image given named) image < 2 ^ 32
-      latest = latest_fits 0 _ (omega arith) (all_times _ 0 _ (devices_lawful (timeless_fields image given named) image is.bytes few_blocks fit.transaction_fits (omega arith)))
-
       by : (lacks : Bool) → cond lacks (min (latest_time (timeless_fields image given named) image + 1) (2 ^ 32 - 1)) (latest_time (timeless_fields image given named) image) < 2 ^ 32
       by true = omega arith
-      by false = latest
+      by false = latest_time_fits
+
+  -- so does the pool's own
+  pool_time_fits : pool_time (timeless_fields image given named) image < 2 ^ 32
+  unfolding pool_time
+  pool_time_fits = omega (arith, latest_time_fits)
 
   pub named_lawful : IsLawfulPool (named_pool image given named)
   unfolding salvage_from named_fields lost_graph graph_of
   named_lawful = record {
     uuid_len = refl;
     uuid_bytes = All-replicate (λ (b : ℕ). b < 256) 16 0 (omega arith);
-    time_fits = time_fits;
+    time_fits = pool_time_fits;
     transaction_fits = fit.transaction_fits;
     block_size_fits = fit.block_size_fits;
     data_blocks_fit = fit.blocks_fit;
@@ -64,10 +80,15 @@ module _ (image : Image) (given : GivenSuper) (named : NamedRoots) (is : IsImage
   unfolding named_fields
   few_named = let few = few_blocks in omega arith
 
+  named_means : MeanSaved → pool_of (named_shape image given named) ≡ named_pool image given named
+  named_means mean =
+      timed_means (pool_time (timeless_fields image given named) image) (saved_shape_from (named_fields image given named) image)
+      ∙ ap (timed_pool (pool_time (timeless_fields image given named) image)) (mean (named_fields image given named) image)
+
   pub named_shape_lawful : MeanSaved → AreShapes → IsLawfulShape (named_shape image given named)
   named_shape_lawful mean are = record {
-    shape = are (named_fields image given named) image few_named;
-    pool = subst IsLawfulPool (sym (mean (named_fields image given named) image)) named_lawful;
+    shape = timed_is_shape (pool_time (timeless_fields image given named) image) (saved_shape_from (named_fields image given named) image) (are (named_fields image given named) image few_named);
+    pool = subst IsLawfulPool (sym (named_means mean)) named_lawful;
   }
 
 -- an image that is laid of it is so
@@ -77,11 +98,12 @@ pub named_made_so : (mean : MeanSaved) (are : AreShapes) (twice : AreTwice) (cle
     → (shared : Bool) (given : GivenSuper) (named : NamedRoots) → DoNumbersFit given.transaction given.block_size given.blocks
     → IsMadeSo (λ image. []) (saved_making shared) (λ image. saved_from_named shared image given named) (IsSavedFrom shared given named)
 named_made_so mean are twice clean_shape clean false given named fit image base made is none enough laid =
-    clean (named_pool image given named) base made (named_lawful image given named is fit) enough laid
+    clean (seen_pool (named_pool image given named)) base made (seen_pool_lawful (named_pool image given named) (named_lawful image given named is fit)) enough laid
 named_made_so mean are twice clean_shape clean true given named fit image base made is none enough laid =
-    keeps made (named_shape image given named) (named_pool image given named)
-    (clean_shape (named_shape image given named) base made (named_shape_lawful image given named is fit mean are) enough laid)
-    (twice (named_fields image given named) image) (mean (named_fields image given named) image)
+    let saved = named_shape image given named in
+    keeps made (seen_shape saved) (seen_pool (named_pool image given named))
+    (clean_shape (seen_shape saved) base made (seen_shape_lawful saved (named_shape_lawful image given named is fit mean are)) enough laid)
+    (shared_twice saved (twice (named_fields image given named) image)) (shape_means saved ∙ ap seen_pool (named_means image given named is fit mean))
 
 -- no details are lost of roots that fit
 abbrev pub LosesNone : Type 0
@@ -129,11 +151,17 @@ module _ (saved : SavesFound) (loses : LosesNone) (image : Image) (given : Given
   unfolding roots_at
   roots_fit = fit
 
+  -- with its own time it is the pool that is found
+  pool_time_is : pool_time (timeless_fields image given named) image ≡ roots.time
+  unfolding pool_time
+  pool_time_is = omega (arith, latest_is, time_is)
+
   pub named_found : named_pool image given named ≡ found_pool (lost_graph image given.blocks) image given.transaction given.block_size roots
+  unfolding found_pool
   named_found =
-      ap (λ (fields : ThinFields). salvage_from fields image) (fields_are ∙ found_are_lost image given.transaction given.block_size given.blocks roots)
-      ∙ saved image given.blocks given.transaction given.block_size roots bytes roots_fit
+      ap₂ timed_pool pool_time_is (ap (λ (fields : ThinFields). salvage_from fields image) (fields_are ∙ found_are_lost image given.transaction given.block_size given.blocks roots)
+      ∙ saved image given.blocks given.transaction given.block_size roots bytes roots_fit)
 
   pub named_shape_found : named_shape image given named ≡ found_shape (lost_graph image given.blocks) image given.transaction given.block_size roots
-  unfolding found_shape
-  named_shape_found = ap (λ (fields : ThinFields). saved_shape_from fields image) fields_are
+  unfolding found_shape saved_shape_from salvage_from
+  named_shape_found = ap₂ timed_shape pool_time_is (ap (λ (fields : ThinFields). saved_shape_from fields image) fields_are)

@@ -22,9 +22,11 @@ use Rattle.pd_answers.specs.Repairs.{Saved, saved_making}
 use Rattle.pd_answers.specs.Requests.{search}
 use Rattle.pd_answers.specs.Searches.{Searched, saved_from, search_answer, searched_answer}
 use Rattle.pd_answers.specs.SearchLines.{roots_line}
+use Rattle.pd_answers.specs.Seen.{seen_pool}
 use Rattle.pd_answers.specs.Terms.{IsAnswered}
 use Rattle.pd_exact.specs.Search.{HasNoRoots, HoldsBest, HoldsFound, IsOfBest, IsPoolOf, LeavesFound, OfRoots}
 use Rattle.pd_exact.proofs.Restored.{Image, both_told}
+use Rattle.pd_exact.proofs.SeenLemmas.{seen_pool_lawful}
 use Rattle.pd_exact.proofs.TellLemmas.{given_once_done}
 
 -- at the answer's status 0 there are roots, whose line it has, and there is room
@@ -149,4 +151,5 @@ module _ (transaction block_size blocks : ℕ)
     → IsLaid (laid_pool m (room_of (length base))) base image → IsCleanPool image m) where
   pub pools_found_so : IsFoundSo false transaction block_size blocks (IsPoolOf transaction block_size blocks)
   pools_found_so image base made roots is best enough laid =
-      clean (found_pool (lost_graph image blocks) image transaction block_size roots) base made (lawful image roots is best) enough laid
+      let found = found_pool (lost_graph image blocks) image transaction block_size roots in
+      clean (seen_pool found) base made (seen_pool_lawful found (lawful image roots is best)) enough laid

@@ -1,5 +1,5 @@
 -- What is laid of a saved shape, and of a found one, is clean and keeps it.
-use Rattle.std.proofs.Common.{◌≡◌, ℕ, ◌^◌, ◌≤◌, true, List, [], length, refl, sym, subst, ◌∙◌, arith}
+use Rattle.std.proofs.Common.{◌≡◌, ℕ, ◌^◌, ◌≤◌, true, List, [], length, refl, sym, ap, subst, ◌∙◌, arith}
 use Rattle.pd_kinds.specs.declared.kind.Kind.TheVariants.{Thin}
 use Rattle.pd_kinds.specs.declared.kind.Stage.TheVariants as stages
 use Rattle.pd_kinds.specs.Graph.{block_at}
@@ -23,6 +23,7 @@ use Rattle.pd_shapes.specs.SharedNeed.{shape_need}
 use Rattle.pd_spells.specs.Lawful.{IsLawfulPool}
 use Rattle.pd_answers.specs.Repairs.{saved_making, saved_of}
 use Rattle.pd_answers.specs.Searches.{found_fields, found_shape}
+use Rattle.pd_answers.specs.Seen.{seen_pool, seen_shape}
 use Rattle.pd_exact.specs.Exact.{IsCleanShape}
 use Rattle.pd_exact.specs.Saved.{KeepsShape}
 use Rattle.pd_exact.specs.Search.{IsShapeOf}
@@ -31,6 +32,7 @@ use Rattle.pd_exact.proofs.Repaired.{IsMadeSo}
 use Rattle.pd_exact.proofs.Restored.{Image}
 use Rattle.pd_exact.proofs.SalvageLawful.{sizes_are}
 use Rattle.pd_exact.proofs.Searched.{IsFoundSo}
+use Rattle.pd_exact.proofs.SeenLemmas.{seen_shape_lawful, shape_means, shared_twice}
 
 -- what is known of saved shapes, and of laid ones
 abbrev pub MeanSaved : Type 0
@@ -93,10 +95,15 @@ module _ (saved : SavesFound) (mean : MeanSaved) (transaction block_size blocks 
     pool = subst IsLawfulPool (sym found_means) lawful;
   }
 
-  found_kept : AreTwice → (made : Image) → IsCleanShape made (found_shape (lost_graph image blocks) image transaction block_size roots) → IsShapeOf transaction block_size blocks image roots made
-  unfolding found_shape found_means
+  found_twice : AreTwice → IsSharedTwice (found_shape (lost_graph image blocks) image transaction block_size roots)
+  unfolding found_shape
+  found_twice twice = twice (found_fields (lost_graph image blocks) transaction block_size roots) image
+
+  found_kept : AreTwice → (made : Image) → IsCleanShape made (seen_shape (found_shape (lost_graph image blocks) image transaction block_size roots)) → IsShapeOf transaction block_size blocks image roots made
   found_kept twice made clean =
-      keeps made _ _ clean (twice (found_fields (lost_graph image blocks) transaction block_size roots) image) found_means
+      let found = found_shape (lost_graph image blocks) image transaction block_size roots in
+      keeps made (seen_shape found) (seen_pool (found_pool (lost_graph image blocks) image transaction block_size roots)) clean (shared_twice found (found_twice twice))
+      (shape_means found ∙ ap seen_pool found_means)
 
 module _ (saved : SavesFound) (mean : MeanSaved) (twice : AreTwice) (clean : AreLaidClean) (transaction block_size blocks : ℕ)
     (lawful : (image : Image) (roots : FoundRoots) → IsImage image → AreBest (lost_graph image blocks) image roots
@@ -104,4 +111,5 @@ module _ (saved : SavesFound) (mean : MeanSaved) (twice : AreTwice) (clean : Are
   pub shapes_found_so : IsFoundSo true transaction block_size blocks (IsShapeOf transaction block_size blocks)
   shapes_found_so image base made roots is best enough laid =
       found_kept saved mean transaction block_size blocks image roots is best twice made
-      (clean (found_shape (lost_graph image blocks) image transaction block_size roots) base made (lawful image roots is best) enough laid)
+      (clean (seen_shape (found_shape (lost_graph image blocks) image transaction block_size roots)) base made
+      (seen_shape_lawful (found_shape (lost_graph image blocks) image transaction block_size roots) (lawful image roots is best)) enough laid)

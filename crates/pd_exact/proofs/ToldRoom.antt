@@ -1,21 +1,30 @@
 -- A repair has room on as many blocks as are told, and on more, but on no fewer.
-use Rattle.std.proofs.Common.{◌≡◌, ℕ, zero, suc, ◌+◌, ◌*◌, ◌<◌, ◌≤◌, ◌⊎◌, inl, inr, Bool, true, false, nat_le, nat_lt, List, unwrap_or, sym, subst, ◌∙◌, arith}
+use Rattle.std.proofs.Common.{◌≡◌, ℕ, zero, suc, ◌+◌, ◌*◌, ◌<◌, ◌≤◌, ◌⊎◌, inl, inr, Bool, true, false, nat_le, nat_lt, List, unwrap_or, refl, sym, ap, subst, ◌∙◌, arith}
 use Rattle.std.specs.List.{find, range_with_len}
 use Rattle.std.proofs.lemmas.Bool.{both_ways, cases_Bool, cases_lt, le-leb, le-ltb, leb-false, leb-true, lt-ltb}
 use Rattle.pd_kinds.specs.Bitmap.{bitmaps_for}
 use Rattle.pd_kinds.specs.Graph.{block_at}
+use Rattle.pd_kinds.specs.Image.{HasBytes}
+use Rattle.pd_kinds.specs.Meaning.{ThinPool}
 use Rattle.pd_kinds.specs.ThinSuper.{ThinFields, thin_fields}
+use Rattle.pd_laid.specs.FoundRoots.{FoundRoots, are_fitting, found_pool, lost_graph}
 use Rattle.pd_laid.specs.Salvage.{salvage_from}
+use Rattle.pd_laid.specs.Shape.{ThinShape}
 use Rattle.pd_shapes.specs.SavedShape.{saved_shape_from}
-use Rattle.pd_shapes.specs.SharedNeed.{shape_need}
+use Rattle.pd_shapes.specs.SharedNeed.{shape_data, shape_need}
 use Rattle.pd_spells.specs.ThinNeed.{thin_need}
 use Rattle.pd_answers.specs.KeptLines.{least_room, told_from}
 use Rattle.pd_answers.specs.Makings.{is_too_small, pool_making, shape_making}
-use Rattle.pd_answers.specs.NamedRepairs.{saved_from_named}
-use Rattle.pd_answers.specs.NamedRoots.{GivenSuper, NamedRoots, named_fields}
+use Rattle.pd_answers.specs.NamedRepairs.{named_pool, named_shape, saved_from_named}
+use Rattle.pd_answers.specs.NamedRoots.{GivenSuper, NamedRoots, named_fields, pool_time, timeless_fields}
 use Rattle.pd_answers.specs.Repairs.{saved_making, saved_of}
+use Rattle.pd_answers.specs.Searches.{found_fields, found_shape, saved_from}
+use Rattle.pd_answers.specs.Seen.{seen_pool, seen_shape, timed_pool, timed_shape}
 use Rattle.pd_kept.proofs.RoomLemmas.{pool_bitmaps, shape_bitmaps}
 use Rattle.pd_exact.specs.DryRun.{told_need}
+use Rattle.pd_exact.proofs.FoundLawful.{SavesFound}
+use Rattle.pd_exact.proofs.SeenLemmas.{pool_need_same, shape_need_same}
+use Rattle.pd_exact.proofs.SharedRepaired.{found_are_lost}
 
 -- the first number from one on that passes a test
 record IsFirst (test : ℕ → Bool) (from k : ℕ) : Type 0 where
@@ -75,7 +84,46 @@ pub room_told : (shared : Bool) (image : List (List ℕ)) (room : ℕ) → is_to
 room_told false image room = pool_told (thin_fields (block_at image 0)) image room
 room_told true image room = shape_told (thin_fields (block_at image 0)) image room
 
+-- of what is made of these, in which sharing is seen
+seen_pool_told : (m : ThinPool) (fields : ThinFields) (image : List (List ℕ)) (room : ℕ) → thin_need m room ≡ thin_need (salvage_from fields image) room
+    → is_too_small (pool_making (seen_pool m)) room ≡ nat_lt room (told_from fields image).need
+seen_pool_told m fields image room same = ap (λ (need : ℕ). nat_lt room need) (pool_need_same m room ∙ same) ∙ pool_told fields image room
+
+seen_shape_told : (w : ThinShape) (fields : ThinFields) (image : List (List ℕ)) (room : ℕ) → shape_need w room ≡ shape_need (saved_shape_from fields image) room
+    → is_too_small (shape_making (seen_shape w)) room ≡ nat_lt room (told_from fields image).shared_need
+seen_shape_told w fields image room same = ap (λ (need : ℕ). nat_lt room need) (shape_need_same w room ∙ same) ∙ shape_told fields image room
+
+-- another time needs as much
+timed_pool_need : (time : ℕ) (m : ThinPool) (room : ℕ) → thin_need (timed_pool time m) room ≡ thin_need m room
+unfolding thin_need
+timed_pool_need time m room = refl
+
+timed_shape_need : (time : ℕ) (w : ThinShape) (room : ℕ) → shape_need (timed_shape time w) room ≡ shape_need w room
+unfolding shape_need shape_data
+timed_shape_need time w room = refl
+
 pub named_told : (shared : Bool) (image : List (List ℕ)) (given : GivenSuper) (named : NamedRoots) (room : ℕ) → is_too_small (saved_making shared (saved_from_named shared image given named)) room
     ≡ nat_lt room (told_need shared (told_from (named_fields image given named) image))
-named_told false image given named room = pool_told (named_fields image given named) image room
-named_told true image given named room = shape_told (named_fields image given named) image room
+named_told false image given named room =
+    seen_pool_told (named_pool image given named) (named_fields image given named) image room
+    (timed_pool_need (pool_time (timeless_fields image given named) image) (salvage_from (named_fields image given named) image) room)
+named_told true image given named room =
+    seen_shape_told (named_shape image given named) (named_fields image given named) image room
+    (timed_shape_need (pool_time (timeless_fields image given named) image) (saved_shape_from (named_fields image given named) image) room)
+
+-- and of found roots, which fit each other
+module _ (saved : SavesFound) (image : List (List ℕ)) (transaction block_size blocks : ℕ) (roots : FoundRoots) (bytes : HasBytes image)
+    (fit : are_fitting (lost_graph image blocks) image roots.top roots.details ≡ true) where
+  found_need : (room : ℕ) → thin_need (found_pool (lost_graph image blocks) image transaction block_size roots) room
+      ≡ thin_need (salvage_from (found_fields (lost_graph image blocks) transaction block_size roots) image) room
+  found_need room =
+      ap (λ (m : ThinPool). thin_need m room)
+      (sym (ap (λ (fields : ThinFields). salvage_from fields image) (found_are_lost image transaction block_size blocks roots) ∙ saved image blocks transaction block_size roots bytes fit))
+
+  pub found_told : (shared : Bool) (room : ℕ) → is_too_small (saved_making shared (saved_from shared (lost_graph image blocks) image transaction block_size roots)) room
+      ≡ nat_lt room (told_need shared (told_from (found_fields (lost_graph image blocks) transaction block_size roots) image))
+  unfolding found_shape
+  found_told false room =
+      seen_pool_told (found_pool (lost_graph image blocks) image transaction block_size roots) (found_fields (lost_graph image blocks) transaction block_size roots) image room (found_need room)
+  found_told true room =
+      seen_shape_told (found_shape (lost_graph image blocks) image transaction block_size roots) (found_fields (lost_graph image blocks) transaction block_size roots) image room refl

@@ -3,19 +3,16 @@
 use Rattle.std.specs.Prelude.{◌≡◌, ℕ, ◌^◌, Bool, true, false, List, [], ◌∷◌, Some, IfSome, codes}
 use Rattle.pd_kinds.specs.Crash.{HoldsSynced, IsOldNoneOrMade, LeavesOnly}
 use Rattle.pd_kinds.specs.Image.{IsImage}
-use Rattle.pd_kinds.specs.Meaning.{ThinPool}
 use Rattle.pd_kinds.specs.Objects.{Appends}
 use Rattle.pd_laid.specs.FoundRoots.{are_fitting, lost_graph}
-use Rattle.pd_laid.specs.Salvage.{salvage_from}
-use Rattle.pd_laid.specs.Shape.{ThinShape}
 use Rattle.pd_laid_thin.specs.CleanPool.{IsCleanPool}
-use Rattle.pd_shapes.specs.SavedShape.{saved_shape_from}
 use Rattle.pd_answers.specs.Answer.{Objects}
 use Rattle.pd_answers.specs.KeptLines.{told_from, told_text}
-use Rattle.pd_answers.specs.NamedRepairs.{text_of_states}
+use Rattle.pd_answers.specs.NamedRepairs.{named_pool, named_shape, text_of_states}
 use Rattle.pd_answers.specs.NamedRoots.{GivenSuper, NamedRoots, named_fields}
 use Rattle.pd_answers.specs.Promises.{terms_of}
 use Rattle.pd_answers.specs.Requests.{repair_named}
+use Rattle.pd_answers.specs.Seen.{seen_pool, seen_shape}
 use Rattle.pd_answers.specs.States.{states}
 use Rattle.pd_answers.specs.Terms.{IsAnswered}
 use Rattle.pd_answers.specs.Words.{number_below}
@@ -26,17 +23,11 @@ use Rattle.pd_exact.specs.Words.{IsName}
 abbrev pub IsNamedRepairAnswered : Bool → List ℕ → List ℕ → GivenSuper → NamedRoots → Objects → Objects → ℕ → Type 0
 IsNamedRepairAnswered shared from to given named = IsAnswered (terms_of (Some (repair_named shared from to given named)))
 
--- what is saved from the roots: a pool, and its shape
-abbrev pub named_pool : List (List ℕ) → GivenSuper → NamedRoots → ThinPool
-named_pool image given named = salvage_from (named_fields image given named) image
-
-abbrev pub named_shape : List (List ℕ) → GivenSuper → NamedRoots → ThinShape
-named_shape image given named = saved_shape_from (named_fields image given named) image
-
--- an image is clean and means what is saved of another one from the roots; with shared leaves it has its shape too
+-- an image is clean and means what is saved of another one from the roots, and sharing is seen in it; with shared leaves it has the
+-- shape of that too
 abbrev pub IsSavedFrom : Bool → GivenSuper → NamedRoots → List (List ℕ) → List (List ℕ) → Type 0
-IsSavedFrom false given named image made = IsCleanPool made (named_pool image given named)
-IsSavedFrom true given named image made = KeepsShape made (named_pool image given named) (named_shape image given named)
+IsSavedFrom false given named image made = IsCleanPool made (seen_pool (named_pool image given named))
+IsSavedFrom true given named image made = KeepsShape made (seen_pool (named_pool image given named)) (seen_shape (named_shape image given named))
 
 -- the output holds such an image, and nothing of it is unsynced
 abbrev pub HoldsNamed : Bool → GivenSuper → NamedRoots → Objects → Objects → Type 0

@@ -17,6 +17,7 @@ use Rattle.pd_answers.specs.Promises.{terms_of}
 use Rattle.pd_answers.specs.Requests.{search}
 use Rattle.pd_answers.specs.Searches.{found_shape}
 use Rattle.pd_answers.specs.SearchLines.{roots_line}
+use Rattle.pd_answers.specs.Seen.{seen_pool, seen_shape}
 use Rattle.pd_answers.specs.Terms.{IsAnswered}
 use Rattle.pd_answers.specs.Words.{number_below}
 use Rattle.pd_exact.specs.Saved.{KeepsShape}
@@ -40,14 +41,16 @@ IsSharedSearchAnswered from to transaction block_size blocks = IsAnswered (terms
 abbrev pub OfRoots : Type 1
 OfRoots = List (List ℕ) → FoundRoots → List (List ℕ) → Type 0
 
--- it is clean, and means their pool
+-- it is clean, and means their pool, in which sharing is seen
 abbrev pub IsPoolOf : ℕ → ℕ → ℕ → OfRoots
-IsPoolOf transaction block_size blocks image roots made = IsCleanPool made (found_pool (lost_graph image blocks) image transaction block_size roots)
+IsPoolOf transaction block_size blocks image roots made =
+    IsCleanPool made (seen_pool (found_pool (lost_graph image blocks) image transaction block_size roots))
 
 -- and it has its shape too: the leaves that the devices share
 abbrev pub IsShapeOf : ℕ → ℕ → ℕ → OfRoots
 IsShapeOf transaction block_size blocks image roots made =
-    KeepsShape made (found_pool (lost_graph image blocks) image transaction block_size roots) (found_shape (lost_graph image blocks) image transaction block_size roots)
+    KeepsShape made (seen_pool (found_pool (lost_graph image blocks) image transaction block_size roots))
+    (seen_shape (found_shape (lost_graph image blocks) image transaction block_size roots))
 
 -- the second image is so of the best roots of the first one
 pub record IsOfBest (blocks : ℕ) (Made : OfRoots) (image made : List (List ℕ)) : Type 0 where

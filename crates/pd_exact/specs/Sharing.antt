@@ -1,7 +1,7 @@
 -- Trusted base.
 -- Which data blocks of a pool a kernel takes for shared. It copies a data block before a write to a device where the device was
 -- snapped after the mapping there was made; else it takes the block for the device's own, and writes to it in place.
-use Rattle.std.specs.Prelude.{◌≡◌, ◌⊎◌, ℕ, ◌<◌, ◌≤◌, true, List, [], Option, IfSome, IsSome}
+use Rattle.std.specs.Prelude.{◌≡◌, ◌⊎◌, ℕ, ◌<◌, ◌≤◌, min, true, List, [], Option, IfSome, IsSome}
 use Rattle.std.specs.List.{All, Contains}
 use Rattle.pd_kinds.specs.declared.kind.Kind.TheVariants.{Thin}
 use Rattle.pd_kinds.specs.declared.kind.Stage.TheVariants.{Whole}
@@ -13,6 +13,7 @@ use Rattle.pd_kinds.specs.ThinSuper.{thin_fields}
 use Rattle.pd_kinds.specs.Trees.{value_of_key}
 use Rattle.pd_laid.specs.Salvage.{salvaged_entries, is_damaged, salvage}
 use Rattle.pd_answers.specs.Answer.{Objects}
+use Rattle.pd_answers.specs.Seen.{greatest_time}
 
 -- a place in a pool: a device, and one of its mappings
 pub record MappingPlace (pool : ThinPool) : Type 0 where
@@ -30,6 +31,10 @@ pub record IsShared {pool : ThinPool} (place : MappingPlace pool) : Type 0 where
 -- sharing is seen in a pool: at each place whose data block another one leads to, a kernel copies it before it writes
 abbrev pub SharingIsSeen : ThinPool → Type 0
 SharingIsSeen pool = (place : MappingPlace pool) → IsShared place → place.mapping.time < place.device.snapped
+
+-- no device was snapped after the pool's time, unless that is the greatest one of a mapping, or later
+abbrev pub IsTimely : ThinPool → Type 0
+IsTimely pool = All (λ (d : ThinDevice). min d.snapped greatest_time ≤ pool.time) pool.devices
 
 -- the details of a device that can be saved of an image, if there are any
 abbrev pub details_in : List (List ℕ) → ℕ → Option ℕ
@@ -61,3 +66,9 @@ abbrev pub SeesSharingWhere : (List (List ℕ) → Type 0) → Objects → Objec
 SeesSharingWhere IsSo before after =
     IfSome before.input.held (λ image. IsImage image → IfSome before.output.held (λ base.
     IfSome after.output.held (λ repaired. IsSo image → SharingIsSeen (thin_meaning repaired))))
+
+-- and one in which it is seen, whatever the input is
+abbrev pub SeesSharing : Objects → Objects → Type 0
+SeesSharing before after =
+    IfSome before.input.held (λ image. IsImage image → IfSome before.output.held (λ base.
+    IfSome after.output.held (λ made. SharingIsSeen (thin_meaning made))))

@@ -12,6 +12,7 @@ mod laws;
 mod named_repairs;
 mod repairs;
 mod searches;
+mod seen;
 mod shared;
 mod shared_repairs;
 mod shrinks;
@@ -27,7 +28,9 @@ pub use caches::{
     crashed_restore_leaves_no_other_cache, restored_cache_dump_means_the_same,
     restored_cache_is_clean, sound_caches_are_lawful,
 };
-pub use dry_runs::{repairs_have_room_where_told, sound_pools_are_told_whole};
+pub use dry_runs::{
+    repairs_have_room_where_told, searches_have_room_where_told, sound_pools_are_told_whole,
+};
 pub use laws::{
     checks_tell_clean_images, cleared_image_is_clean, cleared_images_pass,
     cleared_images_stay_clean, clearing_checks_tell_what_passes,
@@ -45,6 +48,9 @@ pub use repairs::{
 pub use searches::{
     crashed_search_leaves_no_other_pool, found_pools_are_lawful, lost_pool_is_repaired,
     lost_pools_are_found, searched_pool_is_clean,
+};
+pub use seen::{
+    named_pool_sees_sharing, searched_pool_sees_sharing, seen_pools_see_sharing, seen_pools_stay,
 };
 pub use shared::{laid_shapes_are_clean, restored_shared_dump_keeps_the_shape};
 pub use shared_repairs::{

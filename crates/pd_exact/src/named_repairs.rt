@@ -8,12 +8,12 @@ ghost use Rattle.pd_shapes.specs.PoolText.{IsLawfulShape};
 ghost use Rattle.pd_answers.specs.Answer.{Objects};
 ghost use Rattle.pd_answers.specs.KeptLines.{told_from};
 ghost use Rattle.pd_answers.specs.Makings.{is_too_small};
-ghost use Rattle.pd_answers.specs.NamedRepairs.{saved_from_named};
+ghost use Rattle.pd_answers.specs.NamedRepairs.{named_pool, named_shape, saved_from_named};
 ghost use Rattle.pd_answers.specs.NamedRoots.{GivenSuper, NamedRoots, named_fields};
 ghost use Rattle.pd_answers.specs.Repairs.{saved_making};
 ghost use Rattle.pd_answers.specs.Searches.{found_shape};
 ghost use Rattle.pd_exact.specs.DryRun.{told_need};
-ghost use Rattle.pd_exact.specs.NamedRoots.{HoldsNamed, IsNamedRepairAnswered, LeavesNamed, named_pool, named_shape};
+ghost use Rattle.pd_exact.specs.NamedRoots.{HoldsNamed, IsNamedRepairAnswered, LeavesNamed};
 ghost use Rattle.pd_exact.specs.Search.{DoNumbersFit};
 
 use crate::shared::laid_shapes_are_clean;
@@ -33,9 +33,9 @@ pub fn named_pools_are_lawful()
     saved_shapes_mean_what_is_saved();
 }
 
-/// At status 0 the output holds, with nothing unsynced, an image that is clean and means what is saved from the named roots; with
-/// shared leaves its devices share each leaf that two or more of them had whole. Under every status a crash at any moment of the call
-/// leaves, by no chance, the old image, no valid superblock, or such an image.
+/// At status 0 the output holds, with nothing unsynced, an image that is clean and means what is saved from the named roots, so that
+/// sharing is seen in it; with shared leaves its devices share each leaf that two or more of them had whole. Under every status a crash
+/// at any moment of the call leaves, by no chance, the old image, no valid superblock, or such an image.
 pub fn named_repair_is_clean()
     ensures holds { (shared : Bool) (from to : List ℕ) (given : GivenSuper) (named : NamedRoots) (before after : Objects)
         → DoNumbersFit given.transaction given.block_size given.blocks → IsNamedRepairAnswered shared from to given named before after 0

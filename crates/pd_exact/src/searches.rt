@@ -27,9 +27,9 @@ pub fn found_pools_are_lawful()
     found_pools_are_saved_whole();
 }
 
-/// At status 0 the output holds, with nothing unsynced, an image that is clean and means the pool of the input's best roots,
-/// and these are the roots that were put to `out`. It holds such an image under any status once `out` was touched: the line
-/// comes after the work. At status 1 no two trees of the input fit each other, and the output wasn't written.
+/// At status 0 the output holds, with nothing unsynced, an image that is clean and means the pool of the input's best roots, made so
+/// that sharing is seen in it, and these are the roots that were put to `out`. It holds such an image under any status once `out` was
+/// touched: the line comes after the work. At status 1 no two trees of the input fit each other, and the output wasn't written.
 pub fn searched_pool_is_clean()
     ensures found { (from to : List ℕ) (transaction block_size blocks : ℕ) (before after : Objects) → DoNumbersFit transaction block_size blocks
         → IsSearchAnswered from to transaction block_size blocks before after 0 → HoldsFoundPool transaction block_size blocks before after }
@@ -42,8 +42,7 @@ pub fn searched_pool_is_clean()
     laid_pool_is_clean();
 }
 
-/// Under every status a crash at any moment of the call leaves, by no chance, the old image, no valid superblock, or an image
-/// that is clean and means the pool of the input's best roots.
+/// Under every status a crash at any moment of the call leaves, by no chance, the old image, no valid superblock, or such an image.
 pub fn crashed_search_leaves_no_other_pool()
     ensures { (from to : List ℕ) (transaction block_size blocks : ℕ) (before after : Objects) (status : ℕ) → DoNumbersFit transaction block_size blocks
         → IsSearchAnswered from to transaction block_size blocks before after status → LeavesFoundPool transaction block_size blocks before after }
@@ -64,7 +63,7 @@ pub fn lost_pools_are_found()
 
 /// With the pool's own number of data blocks a search in such an image finds roots, whatever else fails, and what it makes at status
 /// 0 is no earlier state than the pool had: the latest time isn't earlier; of the same time the latest transaction isn't, then the
-/// sum of the mappings' times isn't less, and then the number of mappings.
+/// sum of the mappings' times isn't less, and then the number of mappings. That sharing is seen makes no state earlier.
 pub fn lost_pool_is_repaired()
     ensures roots { (image lost : List (List ℕ)) (from to : List ℕ) (transaction block_size : ℕ) (before after : Objects) → IsLostPool image lost before
         → IsSearchAnswered from to transaction block_size (thin_fields (block_at image 0)).data_map.blocks before after 1 → ⊥ }

@@ -114,10 +114,10 @@ pub fn found_shapes_are_lawful()
     saved_shapes_mean_what_is_saved();
 }
 
-/// At status 0 the output holds, with nothing unsynced, an image that is clean and means the pool of the input's best roots, whose devices
-/// share each leaf that two or more of them had whole, and these are the roots that were put to `out`. It holds such an image under any
-/// status once `out` was touched: the line comes after the work. At status 1 no two trees of the input fit each other, and the output
-/// wasn't written.
+/// At status 0 the output holds, with nothing unsynced, an image that is clean and means the pool of the input's best roots, made so that
+/// sharing is seen in it, whose devices share each leaf that two or more of them had whole, and these are the roots that were put to `out`.
+/// It holds such an image under any status once `out` was touched: the line comes after the work. At status 1 no two trees of the input
+/// fit each other, and the output wasn't written.
 pub fn searched_pool_keeps_its_sharing()
     ensures found { (from to : List ℕ) (transaction block_size blocks : ℕ) (before after : Objects) → DoNumbersFit transaction block_size blocks
         → IsSharedSearchAnswered from to transaction block_size blocks before after 0 → HoldsFoundShape transaction block_size blocks before after }

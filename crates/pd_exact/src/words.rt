@@ -21,7 +21,7 @@ ghost use Rattle.pd_answers.specs.Words.{Region, asked, generated_number, is_val
 ghost use Rattle.pd_exact.specs.Exact.{HoldsCacheOfText, HoldsCleared, HoldsPoolOfText, HoldsSalvage, HoldsTargetOfText, LeavesOldOrCleared, LeavesTornAtMost};
 ghost use Rattle.pd_exact.specs.NamedRoots.{HasNoStates, HoldsNamed, RootWords, SayRoots, TellsNamed, TellsStates, with_roots};
 ghost use Rattle.pd_exact.specs.Saved.{HoldsSavedCache, HoldsSavedShape, PutsKept};
-ghost use Rattle.pd_exact.specs.Sharing.{HasTimesOfSharing, IsDamagedPool, IsKeptPool, SeesSharingWhere};
+ghost use Rattle.pd_exact.specs.Sharing.{HasTimesOfSharing, IsDamagedPool, IsKeptPool, SeesSharing, SeesSharingWhere};
 ghost use Rattle.pd_exact.specs.Search.{HasNoRoots, HoldsBestPool, HoldsBestShape, HoldsFoundPool, HoldsFoundShape, NumberWords, SayNumbers, with_numbers};
 ghost use Rattle.pd_exact.specs.Shrink.{HoldsSharing, HoldsShrunk};
 ghost use Rattle.pd_exact.specs.Words.{CallEnds, HoldsGenerated, InputLosesNothing, IsName, IsVersionSaid, PutsGenerated, PutsOfInput, PutsShapeOfInput, PutsTextOfInput, TellsKeptOfInput, TellsWhetherClean, TellsWhetherPassed, check_name, in_version, letting_pass, to_file, with_sharing};
@@ -36,6 +36,7 @@ use crate::laws::{
 use crate::named_repairs::named_repair_is_clean;
 use crate::repairs::{repaired_pool_is_clean, repaired_pool_sees_sharing};
 use crate::searches::searched_pool_is_clean;
+use crate::seen::{named_pool_sees_sharing, searched_pool_sees_sharing};
 use crate::shared::laid_shapes_are_clean;
 use crate::shared_repairs::{
     repaired_pool_keeps_its_sharing, searched_pool_keeps_its_sharing, shared_repair_sees_sharing,
@@ -207,15 +208,17 @@ pub fn thin_repair_sees_sharing()
 }
 
 /// `thin_repair -i IMAGE -o IMAGE --transaction-id TRANSACTION --data-block-size SIZE --nr-data-blocks BLOCKS`: status 0 says that
-/// the output is clean and means the pool of the input's best roots, whatever its block 0 holds, with nothing unsynced, and that
-/// these roots were put; status 1 says that no two trees of the input fit each other. The output is so under any status once `out` was
-/// touched, whether or not the line of the roots was put whole.
+/// the output is clean and means the pool of the input's best roots, whatever its block 0 holds, that sharing is seen in it, with nothing
+/// unsynced, and that these roots were put; status 1 says that no two trees of the input fit each other. The output is so under any
+/// status once `out` was touched, whether or not the line of the roots was put whole.
 pub fn thin_repair_finds_the_roots()
     ensures found { (from to : List ℕ) (words : NumberWords) (transaction block_size blocks : ℕ) (before after : Objects) → IsName from → IsName to → SayNumbers words transaction block_size blocks → CallEnds (codes "thin_repair" ∷ codes "-i" ∷ from ∷ codes "-o" ∷ to ∷ with_numbers words) 0 before after → HoldsFoundPool transaction block_size blocks before after }
     ensures made { (from to : List ℕ) (words : NumberWords) (transaction block_size blocks : ℕ) (before after : Objects) (status : ℕ) → IsName from → IsName to → SayNumbers words transaction block_size blocks → CallEnds (codes "thin_repair" ∷ codes "-i" ∷ from ∷ codes "-o" ∷ to ∷ with_numbers words) status before after → IsWorkDone before after status → HoldsBestPool transaction block_size blocks before after }
+    ensures seen { (from to : List ℕ) (words : NumberWords) (transaction block_size blocks : ℕ) (before after : Objects) (status : ℕ) → IsName from → IsName to → SayNumbers words transaction block_size blocks → CallEnds (codes "thin_repair" ∷ codes "-i" ∷ from ∷ codes "-o" ∷ to ∷ with_numbers words) status before after → IsWorkDone before after status → SeesSharing before after }
     ensures none { (from to : List ℕ) (words : NumberWords) (transaction block_size blocks : ℕ) (before after : Objects) → IsName from → IsName to → SayNumbers words transaction block_size blocks → CallEnds (codes "thin_repair" ∷ codes "-i" ∷ from ∷ codes "-o" ∷ to ∷ with_numbers words) 1 before after → HasNoRoots blocks before after }
 {
     searched_pool_is_clean();
+    searched_pool_sees_sharing();
 }
 
 /// `thin_repair --shared -i IMAGE -o IMAGE`: status 0 says that the output is clean and means what can be saved of the input, that its
@@ -232,15 +235,17 @@ pub fn thin_repair_keeps_the_sharing()
 }
 
 /// `thin_repair --shared -i IMAGE -o IMAGE --transaction-id TRANSACTION --data-block-size SIZE --nr-data-blocks BLOCKS`: status 0 says that
-/// the output is clean and means the pool of the input's best roots, whatever its block 0 holds, that its devices share each leaf that two or
-/// more of them had whole, with nothing unsynced, and that these roots were put; status 1 says that no two trees of the input fit each other.
-/// The output is so under any status once `out` was touched.
+/// the output is clean and means the pool of the input's best roots, whatever its block 0 holds, that sharing is seen in it and its devices
+/// share each leaf that two or more of them had whole, with nothing unsynced, and that these roots were put; status 1 says that no two trees
+/// of the input fit each other. The output is so under any status once `out` was touched.
 pub fn thin_repair_finds_the_sharing()
     ensures found { (from to : List ℕ) (words : NumberWords) (transaction block_size blocks : ℕ) (before after : Objects) → IsName from → IsName to → SayNumbers words transaction block_size blocks → CallEnds (codes "thin_repair" ∷ codes "--shared" ∷ codes "-i" ∷ from ∷ codes "-o" ∷ to ∷ with_numbers words) 0 before after → HoldsFoundShape transaction block_size blocks before after }
     ensures made { (from to : List ℕ) (words : NumberWords) (transaction block_size blocks : ℕ) (before after : Objects) (status : ℕ) → IsName from → IsName to → SayNumbers words transaction block_size blocks → CallEnds (codes "thin_repair" ∷ codes "--shared" ∷ codes "-i" ∷ from ∷ codes "-o" ∷ to ∷ with_numbers words) status before after → IsWorkDone before after status → HoldsBestShape transaction block_size blocks before after }
+    ensures seen { (from to : List ℕ) (words : NumberWords) (transaction block_size blocks : ℕ) (before after : Objects) (status : ℕ) → IsName from → IsName to → SayNumbers words transaction block_size blocks → CallEnds (codes "thin_repair" ∷ codes "--shared" ∷ codes "-i" ∷ from ∷ codes "-o" ∷ to ∷ with_numbers words) status before after → IsWorkDone before after status → SeesSharing before after }
     ensures none { (from to : List ℕ) (words : NumberWords) (transaction block_size blocks : ℕ) (before after : Objects) → IsName from → IsName to → SayNumbers words transaction block_size blocks → CallEnds (codes "thin_repair" ∷ codes "--shared" ∷ codes "-i" ∷ from ∷ codes "-o" ∷ to ∷ with_numbers words) 1 before after → HasNoRoots blocks before after }
 {
     searched_pool_keeps_its_sharing();
+    searched_pool_sees_sharing();
 }
 
 /// `thin_repair --dry-run -i IMAGE`, with `--shared` before `-i` or not: status 0 says that the superblock of the image has no faults, and
@@ -252,13 +257,15 @@ pub fn thin_repair_tells_what_it_would_keep()
 
 /// `thin_repair -i IMAGE -o IMAGE --mapping-root TOP --details-root DETAILS --transaction-id TRANSACTION --data-block-size SIZE
 /// --nr-data-blocks BLOCKS`, with `--shared` before `-i` or not: status 0 says that the output is clean and means what can be saved of the
-/// input from these two roots, whatever is damaged, with nothing unsynced; with shared leaves its devices share each leaf that two or more
-/// of them had whole. Status 1 never comes.
+/// input from these two roots, whatever is damaged, that sharing is seen in it, with nothing unsynced; with shared leaves its devices share
+/// each leaf that two or more of them had whole. Status 1 never comes.
 pub fn thin_repair_saves_from_named_roots()
     ensures made { (shared : Bool) (from to : List ℕ) (roots : RootWords) (words : NumberWords) (named : NamedRoots) (transaction block_size blocks : ℕ) (before after : Objects) → IsName from → IsName to → SayRoots roots named → SayNumbers words transaction block_size blocks → CallEnds (codes "thin_repair" ∷ (with_sharing shared ++ (codes "-i" ∷ from ∷ codes "-o" ∷ to ∷ with_roots roots (with_numbers words)))) 0 before after → HoldsNamed shared (record { transaction = transaction; block_size = block_size; blocks = blocks }) named before after }
+    ensures seen { (shared : Bool) (from to : List ℕ) (roots : RootWords) (words : NumberWords) (named : NamedRoots) (transaction block_size blocks : ℕ) (before after : Objects) → IsName from → IsName to → SayRoots roots named → SayNumbers words transaction block_size blocks → CallEnds (codes "thin_repair" ∷ (with_sharing shared ++ (codes "-i" ∷ from ∷ codes "-o" ∷ to ∷ with_roots roots (with_numbers words)))) 0 before after → SeesSharing before after }
     ensures never { (shared : Bool) (from to : List ℕ) (roots : RootWords) (words : NumberWords) (named : NamedRoots) (transaction block_size blocks : ℕ) (before after : Objects) → IsName from → IsName to → SayRoots roots named → SayNumbers words transaction block_size blocks → CallEnds (codes "thin_repair" ∷ (with_sharing shared ++ (codes "-i" ∷ from ∷ codes "-o" ∷ to ∷ with_roots roots (with_numbers words)))) 1 before after → ⊥ }
 {
     named_repair_is_clean();
+    named_pool_sees_sharing();
 }
 
 /// `thin_repair --dry-run -i IMAGE --transaction-id TRANSACTION --data-block-size SIZE --nr-data-blocks BLOCKS`, with `--shared` before `-i`

@@ -19,6 +19,8 @@ mod restore_tests;
 #[cfg(test)]
 mod search_tests;
 #[cfg(test)]
+mod seen_tests;
+#[cfg(test)]
 mod shared_pool;
 #[cfg(test)]
 mod shared_repair_tests;

@@ -150,14 +150,14 @@ const NAMED: &[Named] = &[
 ];
 
 /// The words of a repair, of one that keeps what is shared, and of a dry run.
-const REPAIR: &[&str] = &["thin_repair", "-i", "in", "-o", "found"];
+pub(crate) const REPAIR: &[&str] = &["thin_repair", "-i", "in", "-o", "found"];
 
-const REPAIR_SHARED: &[&str] = &["thin_repair", "--shared", "-i", "in", "-o", "found"];
+pub(crate) const REPAIR_SHARED: &[&str] = &["thin_repair", "--shared", "-i", "in", "-o", "found"];
 
 const DRY_RUN: &[&str] = &["thin_repair", "--dry-run", "-i", "in"];
 
 /// Words, and the three numbers of a pool with so many data blocks behind them, and then the roots, if any.
-fn with_numbers<'a>(
+pub(crate) fn with_numbers<'a>(
     alloc: Global,
     words: &[&'a str],
     data_blocks: &'a str,

@@ -17,3 +17,8 @@ pub returns-clause-none : goal.returns-clause-none
 returns-clause-none c from to words transaction block_size blocks before after is_from is_to say ends =
     c.searched_pool_is_clean.ensures.none from to transaction block_size blocks before after
     (answered_for _ _ 1 before after (thin_search_asked false from to words transaction block_size blocks is_from is_to say) ends)
+
+pub returns-clause-seen : goal.returns-clause-seen
+returns-clause-seen c from to words transaction block_size blocks before after status is_from is_to say ends =
+    c.searched_pool_sees_sharing.ensures.plain from to transaction block_size blocks before after status (said_numbers_fit words transaction block_size blocks say)
+    (answered_for _ _ status before after (thin_search_asked false from to words transaction block_size blocks is_from is_to say) ends)

@@ -30,3 +30,8 @@ returns-clause-never c shared from to roots words named transaction block_size b
     let answered = answered_for _ _ 1 before after (named_repair_asked shared from to roots words named transaction block_size blocks is_from is_to roots_say say) ends in
     let possible = answered.possible in
     absurd cc
+
+pub returns-clause-seen : goal.returns-clause-seen
+returns-clause-seen c shared from to roots words named transaction block_size blocks before after is_from is_to roots_say say ends =
+    c.named_pool_sees_sharing.ensures shared from to (record { transaction = transaction; block_size = block_size; blocks = blocks }) named before after (said_numbers_fit words transaction block_size blocks say)
+    (answered_for _ _ 0 before after (named_repair_asked shared from to roots words named transaction block_size blocks is_from is_to roots_say say) ends)
