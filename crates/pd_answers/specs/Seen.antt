@@ -10,19 +10,19 @@ use Rattle.pd_answers.specs.Repairs.{Saved}
 
 -- a mapping is shared where these data blocks of all mappings have its own twice or more
 abbrev pub is_shared : List ℕ → Mapping → Bool
-is_shared data x = nat_lt 1 (count_by (λ b. b == x.data_block) data)
+is_shared places x = nat_lt 1 (count_by (λ b. b == x.data_block) places)
 
 -- when a device is snapped in such a pool: at the latest of its own time and of one more than the time of each shared mapping
 unfoldable pub seen_snap : List ℕ → ThinDevice → ℕ
-seen_snap data d = fold max d.snapped (map (λ (x : Mapping). x.time + 1) (filter (is_shared data) d.mappings))
+seen_snap places d = fold max d.snapped (map (λ (x : Mapping). x.time + 1) (filter (is_shared places) d.mappings))
 
 abbrev pub seen_device : List ℕ → ThinDevice → ThinDevice
-seen_device data d = record {
+seen_device places d = record {
   id = d.id;
   mapped = d.mapped;
   transaction = d.transaction;
   created = d.created;
-  snapped = seen_snap data d;
+  snapped = seen_snap places d;
   mappings = d.mappings;
 }
 
