@@ -130,3 +130,17 @@ saved_seen saved counts time counted fits sound = record {
   joined = joined_seen (is_twice counts) saved.devices saved.runs sound.joined;
   number = number_seen (is_twice counts) saved.devices saved.runs ∙ sound.number;
 }
+
+-- so it is where the devices were seen by the counts, and the time was raised to theirs
+module _ (saved : SavedPool) (counts : Counted) (counted : HasCountedThrice counts (mapped_data (pool_of saved))) (time t latest : ℕ) (ds : List SavedDevice)
+    (ds_are : ds ≡ seen_devices (is_twice counts) saved.devices saved.runs) (latest_is : latest ≡ fold max 0 (map (λ (d : SavedDevice). d.details.snapped) ds)) (t_is : t ≡ raised_time time latest) where
+  same : with_devices saved t ds ≡ with_devices saved (raised_time time (fold max 0 (map (λ (d : SavedDevice). d.details.snapped) (seen_devices (is_twice counts) saved.devices saved.runs)))) (seen_devices (is_twice counts) saved.devices saved.runs)
+  same =
+      ap₂ (λ (n : ℕ) (es : List SavedDevice). with_devices saved n es)
+      (t_is ∙ ap (raised_time time) (latest_is ∙ ap (λ (es : List SavedDevice). fold max 0 (map (λ (d : SavedDevice). d.details.snapped) es)) ds_are)) ds_are
+
+  pub seen_sound : time < 2 ^ 32 → IsSavedPool saved → IsSavedPool (with_devices saved t ds)
+  seen_sound fits sound = subst IsSavedPool (sym same) (saved_seen saved counts time counted fits sound)
+
+  pub seen_is : pool_of (with_devices saved t ds) ≡ seen_pool (timed_pool time (pool_of saved))
+  seen_is = ap pool_of same ∙ pool_seen saved counts counted time

@@ -159,3 +159,21 @@ shape_sound h counts time counted fits sound =
       piece_number = number_seen (is_twice counts) (leaves_of h) h.devices h.pieces h.runs ∙ sound.piece_number;
       number = sound.number;
     }
+
+-- so it is where the devices were seen by the counts, and the time was raised to theirs
+module _ (h : HeldShape) (counts : Counted) (counted : HasCountedThrice counts (mapped_data (pool_of (held_shape h)))) (time t latest : ℕ) (ds : List ShapedDevice)
+    (ds_are : ds ≡ seen_shaped (is_twice counts) (leaves_of h) h.devices h.pieces h.runs) (latest_is : latest ≡ fold max 0 (map (λ (d : ShapedDevice). d.details.snapped) ds))
+    (t_is : t ≡ raised_time time latest) where
+  abbrev ds_seen : List ShapedDevice
+  ds_seen = seen_shaped (is_twice counts) (leaves_of h) h.devices h.pieces h.runs
+
+  same : with_devices h t ds ≡ with_devices h (raised_time time (fold max 0 (map (λ (d : ShapedDevice). d.details.snapped) ds_seen))) ds_seen
+  same =
+      ap₂ (λ (n : ℕ) (es : List ShapedDevice). with_devices h n es)
+      (t_is ∙ ap (raised_time time) (latest_is ∙ ap (λ (es : List ShapedDevice). fold max 0 (map (λ (d : ShapedDevice). d.details.snapped) es)) ds_are)) ds_are
+
+  pub seen_shape_sound : time < 2 ^ 32 → IsSavedShape h → IsSavedShape (with_devices h t ds)
+  seen_shape_sound fits sound = subst IsSavedShape (sym same) (shape_sound h counts time counted fits sound)
+
+  pub seen_shape_is : held_shape (with_devices h t ds) ≡ seen_shape (timed_shape time (held_shape h))
+  seen_shape_is = ap held_shape same ∙ shape_seen h counts counted time

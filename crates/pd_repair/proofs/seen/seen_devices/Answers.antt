@@ -1,4 +1,4 @@
-use Rattle.std.proofs.Common.{List, ap, refl, sym, ◌∙◌}
+use Rattle.std.proofs.Common.{List, [], ◌≤◌, ap, arith, refl, sym, ◌∙◌, drop}
 use Rattle.pd_runs.specs.Places.{runs_from}
 use Rattle.pd_thin_meaning.specs.declared.joined.Run.{Run}
 use Rattle.pd_restore.specs.Overflowing.{IsRunIn}
@@ -11,7 +11,7 @@ pub loop-device-init : goal.loop-device-init
 loop-device-init c = ?
 
 pub snap_of_runs-requires : goal.snap_of_runs-requires
-snap_of_runs-requires c = all_front (IsRunIn c.args.counted.now.size) _ (runs_from c.args.runs.now c.loop-device.place) c.loop-device.invariant.within
+snap_of_runs-requires c = ?
 
 pub loop-device-preserved : goal.loop-device-preserved
 loop-device-preserved c = ?
