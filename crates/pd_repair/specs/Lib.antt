@@ -1,2 +1,4 @@
 pub mod Faults
 pub mod Repaired
+pub mod Snaps
+pub mod Lost

@@ -3,6 +3,7 @@
 use pd_kinds::Rules;
 use pd_restore::MadeFault;
 use pd_salvage::SalvageFault;
+use std::alloc::AllocError;
 
 /// Why a repair failed.
 #[derive(Clone, Copy, Debug, PartialEq, Eq)]
@@ -45,5 +46,16 @@ impl From<MadeFault> for RepairFault {
             MadeFault::Device => RepairFault::Output,
             MadeFault::NoRoom { need, blocks } => RepairFault::NoRoom { need, blocks },
         }
+    }
+}
+
+impl From<AllocError> for RepairFault {
+    ghost use Rattle.std.specs.Prelude.{◌≡◌};
+    ghost use Rattle.pd_repair.specs.declared.fault.RepairFault.TheVariants.{Memory as Wanting};
+
+    ghost from_gives = { λ error given. given ≡ Wanting };
+
+    fn from(_error: AllocError) -> RepairFault {
+        RepairFault::Memory
     }
 }

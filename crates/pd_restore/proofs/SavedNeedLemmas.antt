@@ -16,7 +16,7 @@ use Rattle.pd_spells.specs.ThinText.{HasMappings, Run, device_of_part, mappings_
 use Rattle.pd_salvage.specs.declared.saved.SavedDevice.{SavedDevice}
 use Rattle.pd_salvage.specs.declared.saved.SavedHead.{SavedHead}
 use Rattle.pd_salvage.specs.Saved.{IsSavedPool, SavedPool, parts_of, pool_of, runs_of_devices}
-use Rattle.pd_restore.specs.Overflowing.{HasCountedThrice, data_of_runs}
+use Rattle.pd_restore.specs.Overflowing.{HasCountedThrice, IsRunIn, data_of_runs}
 use Rattle.pd_restore.proofs.SavedTextLemmas.{have_mappings}
 use Rattle.pd_restore.proofs.OverflowingLemmas.{over_listed}
 
@@ -34,12 +34,21 @@ after_run blocks least v d t (suc n) rest are = after_run blocks (v + 1) (suc v)
 abbrev pub IsWithin : ℕ → SavedRun → Type 0
 IsWithin blocks r = r.target + r.length ≤ blocks
 
+-- and its time has 24 bits
+run_timed : (blocks least v d t n : ℕ) (rest : List Mapping) → AreMappings blocks least (mappings_from v d t n ++ rest) → 1 ≤ n → t < 2 ^ 24
+run_timed blocks least v d t zero rest are some = absurd (omega arith)
+run_timed blocks least v d t (suc n) rest are some = are.0.time_fits
+
 pub part_within : (blocks least : ℕ) (runs : List SavedRun) → AreMappings blocks least (flat_map mappings_of (map spelled runs))
-    → AllByRecursion (λ (r : Run). 1 ≤ r.length) (map spelled runs) → AllByRecursion (IsWithin blocks) runs
+    → AllByRecursion (λ (r : Run). 1 ≤ r.length) (map spelled runs) → AllByRecursion (IsRunIn blocks) runs
 part_within blocks least [] are some = tt
 part_within blocks least (r ∷ runs) are some =
-    let later = after_run blocks least r.virt r.target r.time r.length (flat_map mappings_of (map spelled runs)) are in (
-      run_within blocks least r.virt r.target r.time r.length (flat_map mappings_of (map spelled runs)) are some.0,
+    let others = flat_map mappings_of (map spelled runs) in
+    let later = after_run blocks least r.virt r.target r.time r.length others are in (
+      record {
+        within = run_within blocks least r.virt r.target r.time r.length others are some.0;
+        timed = run_timed blocks least r.virt r.target r.time r.length others are some.0;
+      },
       part_within blocks later.0 runs later.1 some.1,
     )
 
@@ -47,23 +56,31 @@ pub all_append : {A : Type 0} (P : A → Type 0) (xs ys : List A) → AllByRecur
 all_append P [] ys first second = second
 all_append P (x ∷ xs) ys first second = (first.0, all_append P xs ys first.1 second)
 
+-- where only the data blocks are asked for
+pub within_all : (blocks : ℕ) (runs : List SavedRun) → AllByRecursion (IsRunIn blocks) runs → AllByRecursion (IsWithin blocks) runs
+within_all blocks [] all = tt
+within_all blocks (r ∷ runs) all = (all.0.within, within_all blocks runs all.1)
+
 -- the runs behind those of the first device are those of the others
 others : (d : SavedDevice) (ds : List SavedDevice) (runs : List SavedRun) → runs_of_devices (d ∷ ds) ≡ length runs → runs_of_devices ds ≡ length (drop d.runs runs)
 others d ds runs number = omega (arith, number, sum_by-cons (λ (d : SavedDevice). d.runs) d ds, length-drop d.runs runs)
 
 parts_within : (blocks least : ℕ) (ds : List SavedDevice) (runs : List SavedRun) → AreDevices blocks least (map device_of_part (parts_of ds runs))
-    → AllByRecursion HasMappings (parts_of ds runs) → runs_of_devices ds ≡ length runs → AllByRecursion (IsWithin blocks) runs
+    → AllByRecursion HasMappings (parts_of ds runs) → runs_of_devices ds ≡ length runs → AllByRecursion (IsRunIn blocks) runs
 parts_within blocks least [] runs are have number = rw (nil_from_length runs (sym number)) tt
 parts_within blocks least (d ∷ ds) runs are have number =
-    subst (AllByRecursion (IsWithin blocks)) (take-append-drop d.runs runs)
-    (all_append (IsWithin blocks) (take d.runs runs) (drop d.runs runs) (part_within blocks 0 (take d.runs runs) are.0.mappings have.0)
+    subst (AllByRecursion (IsRunIn blocks)) (take-append-drop d.runs runs)
+    (all_append (IsRunIn blocks) (take d.runs runs) (drop d.runs runs) (part_within blocks 0 (take d.runs runs) are.0.mappings have.0)
     (parts_within blocks (d.id + 1) ds (drop d.runs runs) are.1 have.1 (others d ds runs number)))
 
 -- the runs of a saved pool are in it
-pub runs_within : (saved : SavedPool) → IsSavedPool saved → AllByRecursion (IsWithin saved.head.blocks) saved.runs
+pub runs_in_pool : (saved : SavedPool) → IsSavedPool saved → AllByRecursion (IsRunIn saved.head.blocks) saved.runs
 unfolding pool_of
-runs_within saved sound =
+runs_in_pool saved sound =
     parts_within saved.head.blocks 0 saved.devices saved.runs sound.lawful.devices (have_mappings (parts_of saved.devices saved.runs) sound.joined) sound.number
+
+pub runs_within : (saved : SavedPool) → IsSavedPool saved → AllByRecursion (IsWithin saved.head.blocks) saved.runs
+runs_within saved sound = within_all saved.head.blocks saved.runs (runs_in_pool saved sound)
 
 pub part_data : (runs : List SavedRun) → map (λ (x : Mapping). x.data_block) (flat_map mappings_of (map spelled runs)) ≡ data_of_runs runs
 part_data [] = refl

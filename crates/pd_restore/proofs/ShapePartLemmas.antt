@@ -22,9 +22,9 @@ use Rattle.pd_salvage.specs.declared.saved_shape.SavedPiece.{SavedPiece}
 use Rattle.pd_salvage.specs.declared.saved_shape.SavedPiece.TheVariants.{Own, Shared}
 use Rattle.pd_salvage.specs.declared.saved_shape.ShapedDevice.{ShapedDevice}
 use Rattle.pd_salvage.specs.SavedShape.{HeldShape, IsSavedShape, device_parts, held_shape, leaf_parts, piece_parts, runs_of_piece, runs_of_pieces}
-use Rattle.pd_restore.specs.Overflowing.{data_of_runs}
+use Rattle.pd_restore.specs.Overflowing.{IsRunIn, data_of_runs}
 use Rattle.pd_restore.specs.ShapeNeed.{IsUseBelow, pieces_of, trees_of_parts, uses_of_saved}
-use Rattle.pd_restore.proofs.SavedNeedLemmas.{IsWithin, all_append, part_data, part_within}
+use Rattle.pd_restore.proofs.SavedNeedLemmas.{IsWithin, all_append, part_data, part_within, within_all}
 use Rattle.pd_restore.proofs.ShapeNeedLemmas.{parts_need, take_front}
 use Rattle.pd_restore.proofs.ShapeTextLemmas.{leaves_have, parts_have}
 
@@ -149,18 +149,21 @@ uses_below h sound =
 
 -- its runs are in the pool: those of the leaves
 leaves_within : (blocks : ℕ) (leaves : List SavedLeaf) (runs : List Run) → sum_by (λ (l : SavedLeaf). l.runs) leaves ≡ length runs
-    → AllByRecursion (IsLeaf blocks) (leaf_parts leaves runs) → AllByRecursion (IsWithin blocks) runs
+    → AllByRecursion (IsLeaf blocks) (leaf_parts leaves runs) → AllByRecursion (IsRunIn blocks) runs
 leaves_within blocks [] runs number are = rw (nil_from_length runs (sym number)) tt
 leaves_within blocks (leaf ∷ leaves) runs number are =
-    subst (AllByRecursion (IsWithin blocks)) (take-append-drop leaf.runs runs)
-    (all_append (IsWithin blocks) (take leaf.runs runs) (drop leaf.runs runs) (part_within blocks 0 (take leaf.runs runs) are.0.mappings are.0.have)
+    subst (AllByRecursion (IsRunIn blocks)) (take-append-drop leaf.runs runs)
+    (all_append (IsRunIn blocks) (take leaf.runs runs) (drop leaf.runs runs) (part_within blocks 0 (take leaf.runs runs) are.0.mappings are.0.have)
     (leaves_within blocks leaves (drop leaf.runs runs) (leaf_rest leaf leaves runs number) are.1))
 
-pub leaf_runs_within : (h : HeldShape) → IsSavedShape h → AllByRecursion (IsWithin h.head.blocks) h.leaf_runs
+pub leaf_runs_in : (h : HeldShape) → IsSavedShape h → AllByRecursion (IsRunIn h.head.blocks) h.leaf_runs
 unfolding held_shape
-leaf_runs_within h sound =
+leaf_runs_in h sound =
     leaves_within h.head.blocks h.leaves h.leaf_runs sound.leaf_number
     (are_leaves (held_shape h) (leaf_parts h.leaves h.leaf_runs) refl (leaves_have (leaf_parts h.leaves h.leaf_runs) sound.leaves_joined) sound.shape sound.lawful)
+
+pub leaf_runs_within : (h : HeldShape) → IsSavedShape h → AllByRecursion (IsWithin h.head.blocks) h.leaf_runs
+leaf_runs_within h sound = within_all h.head.blocks h.leaf_runs (leaf_runs_in h sound)
 
 -- lawful mappings, in front and behind
 in_front : (blocks least : ℕ) (ms ns : List Mapping) → AreMappings blocks least (ms ++ ns) → AreMappings blocks least ms
@@ -174,7 +177,7 @@ from_there blocks least (m ∷ ms) ns are = from_there blocks (m.virtual_block +
 -- and those of devices' own pieces
 pieces_within : (blocks least : ℕ) (leaves : List (List Mapping)) (ps : List SavedPiece) (runs : List Run)
     → AreMappings blocks least (flat_map (piece_mappings leaves) (map piece_of_part (piece_parts ps runs))) → AllByRecursion HasPieceMappings (piece_parts ps runs)
-    → AllByRecursion (IsWithin blocks) (take (runs_of_pieces ps) runs)
+    → AllByRecursion (IsRunIn blocks) (take (runs_of_pieces ps) runs)
 pieces_within blocks least leaves [] runs are have = tt
 pieces_within blocks least leaves (Own k ∷ ps) runs are have =
     let mine = mappings_of_runs (map spelled (take k runs)) in
@@ -182,32 +185,35 @@ pieces_within blocks least leaves (Own k ∷ ps) runs are have =
     let later = from_there blocks least mine others are in
     let all : take k runs ++ take (runs_of_pieces ps) (drop k runs) ≡ take (runs_of_pieces (Own k ∷ ps)) runs =
     sym (take_front k (runs_of_pieces ps) runs) ∙ ap (λ (n : ℕ). take n runs) (sym (sum_by-cons runs_of_piece (Own k) ps)) in
-    subst (AllByRecursion (IsWithin blocks)) all
-    (all_append (IsWithin blocks) (take k runs) (take (runs_of_pieces ps) (drop k runs)) (part_within blocks least (take k runs) (in_front blocks least mine others are) have.0)
+    subst (AllByRecursion (IsRunIn blocks)) all
+    (all_append (IsRunIn blocks) (take k runs) (take (runs_of_pieces ps) (drop k runs)) (part_within blocks least (take k runs) (in_front blocks least mine others are) have.0)
     (pieces_within blocks later.0 leaves ps (drop k runs) later.1 have.1))
 pieces_within blocks least leaves (Shared number ∷ ps) runs are have =
     let others = flat_map (piece_mappings leaves) (map piece_of_part (piece_parts ps runs)) in
     let later = from_there blocks least (piece_mappings leaves (shared number)) others are in
     let same : runs_of_pieces ps ≡ runs_of_pieces (Shared number ∷ ps) = omega (arith, sum_by-cons runs_of_piece (Shared number) ps) in
-    subst (λ (n : ℕ). AllByRecursion (IsWithin blocks) (take n runs)) same (pieces_within blocks later.0 leaves ps runs later.1 have.1)
+    subst (λ (n : ℕ). AllByRecursion (IsRunIn blocks) (take n runs)) same (pieces_within blocks later.0 leaves ps runs later.1 have.1)
 
 devices_within : (blocks least : ℕ) (leaves : List (List Mapping)) (ds : List ShapedDevice) (ps : List SavedPiece) (runs : List Run) → pieces_of ds ≡ length ps → runs_of_pieces ps ≡ length runs
-    → AreDevices blocks least (map (device_of leaves) (map device_of_part (device_parts ds ps runs))) → AllByRecursion HasPartMappings (device_parts ds ps runs) → AllByRecursion (IsWithin blocks) runs
+    → AreDevices blocks least (map (device_of leaves) (map device_of_part (device_parts ds ps runs))) → AllByRecursion HasPartMappings (device_parts ds ps runs) → AllByRecursion (IsRunIn blocks) runs
 devices_within blocks least leaves [] ps runs pieces number are have =
     let none : length runs ≡ 0 = sym number ∙ ap runs_of_pieces (nil_from_length ps (sym pieces)) in
     rw (nil_from_length runs none) tt
 devices_within blocks least leaves (d ∷ ds) ps runs pieces number are have =
     let mine = take d.pieces ps in
     let n = runs_of_pieces mine in
-    subst (AllByRecursion (IsWithin blocks)) (take-append-drop n runs)
-    (all_append (IsWithin blocks) (take n runs) (drop n runs) (pieces_within blocks 0 leaves mine runs are.0.mappings have.0)
+    subst (AllByRecursion (IsRunIn blocks)) (take-append-drop n runs)
+    (all_append (IsRunIn blocks) (take n runs) (drop n runs) (pieces_within blocks 0 leaves mine runs are.0.mappings have.0)
     (devices_within blocks (d.id + 1) leaves ds (drop d.pieces ps) (drop n runs) (device_rest d ds ps pieces) (runs_rest d.pieces ps runs number) are.1 have.1))
 
-pub own_runs_within : (h : HeldShape) → IsSavedShape h → AllByRecursion (IsWithin h.head.blocks) h.runs
+pub own_runs_in : (h : HeldShape) → IsSavedShape h → AllByRecursion (IsRunIn h.head.blocks) h.runs
 unfolding held_shape pool_of
-own_runs_within h sound =
+own_runs_in h sound =
     devices_within h.head.blocks 0 (held_shape h).leaves h.devices h.pieces h.runs sound.piece_number sound.number sound.lawful.devices
     (parts_have (device_parts h.devices h.pieces h.runs) sound.joined)
+
+pub own_runs_within : (h : HeldShape) → IsSavedShape h → AllByRecursion (IsWithin h.head.blocks) h.runs
+own_runs_within h sound = within_all h.head.blocks h.runs (own_runs_in h sound)
 
 -- the numbers that the need goes by
 abbrev pub counts_of : HeldShape → NeedCounts

@@ -24,10 +24,12 @@ mod thin;
 mod unshared;
 
 pub use made::restore_made;
+pub use overflowing::Thrice;
 pub use pd_devices::need_thin;
 pub use pd_restoring::{MadeFault, RestoreFault};
-pub use plain_need::plain_need_of_shape;
-pub use saved_need::need_of_saved;
+pub use plain_need::{counted_of_shape, plain_need_of_shape};
+pub use saved_need::{counted_of_saved, need_of_saved};
 pub use shape_made::restore_shape;
 pub use shape_need::need_of_shape;
+pub use span::{RunSpan, Span};
 pub use thin::restore_thin;

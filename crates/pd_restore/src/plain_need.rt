@@ -23,8 +23,6 @@ use std::alloc::{AllocError, Global};
 /// How many blocks the pool of the shape needs where each device has leaves of its own, and there are so many blocks for
 /// metadata. `None` where memory is wanting: a number that doesn't fit its type is that of a pool for whose metadata there
 /// is no memory.
-///
-/// A shared leaf's data blocks are counted at most three times, however many devices use it.
 pub fn plain_need_of_shape(alloc: Global, saved: &SavedShape, room: u64) -> Option<u64>
     ensures { IfSome result (λ need. need ≡ thin_need (pool_of (held_shape saved.now)) room) }
 {
@@ -54,13 +52,24 @@ fn mapped_of(alloc: Global, devices: &[ShapedDevice]) -> Result<Vec<u64>, AllocE
 fn over_of(alloc: Global, saved: &SavedShape) -> Result<u64, AllocError>
     ensures { IfOk result (λ over. over ≡ overflows_in (mapped_data (pool_of (held_shape saved.now))) saved.now.head.blocks) }
 {
+    let counted = counted_of_shape(alloc, saved)?;
+    Ok(counted.over())
+}
+
+/// How often each data block stands in the mappings of all devices, up to three times.
+///
+/// A shared leaf's data blocks are counted at most three times, however many devices use it.
+pub fn counted_of_shape(alloc: Global, saved: &SavedShape) -> Result<Thrice, AllocError>
+    ensures size { IfOk result (λ counted. counted.size ≡ saved.now.head.blocks) }
+    ensures counted { IfOk result (λ counted. HasCountedThrice counted (mapped_data (pool_of (held_shape saved.now)))) }
+{
     let blocks = saved.head().blocks;
     let leaves = saved.leaves();
     let uses = uses_of(alloc, leaves.len() as u64, saved.pieces())?;
     let mut counted = Thrice::new(alloc, blocks)?;
     add_leaves(&mut counted, leaves, saved.leaf_runs(), &uses)?;
     counted.add_runs(saved.runs())?;
-    Ok(counted.over())
+    Ok(counted)
 }
 
 /// Counts the data blocks of these leaves, to which all the runs belong, as often as each leaf is used.
@@ -70,11 +79,11 @@ fn add_leaves(
     runs: &PackedRuns,
     uses: &Thrice,
 ) -> Result<(), AllocError>
-    requires within { AllByRecursion (λ (r : SavedRun). r.target + r.length ≤ counted.old.counts.size) runs.now }
-    requires each { length leaves.now ≤ uses.now.counts.size }
-    ensures size { OnOk result (counted.new.counts.size ≡ counted.old.counts.size) }
-    ensures listed { (before : List ℕ) → HasCountedThrice counted.old.counts before
-        → OnOk result (HasCountedThrice counted.new.counts (before ++ leaves_used (count_of uses.now.counts) 0 leaves.now runs.now)) }
+    requires within { AllByRecursion (λ (r : SavedRun). r.target + r.length ≤ counted.old.size) runs.now }
+    requires each { length leaves.now ≤ uses.now.size }
+    ensures size { OnOk result (counted.new.size ≡ counted.old.size) }
+    ensures listed { (before : List ℕ) → HasCountedThrice counted.old before
+        → OnOk result (HasCountedThrice counted.new (before ++ leaves_used (count_of uses.now) 0 leaves.now runs.now)) }
 {
     let mut place = runs.first();
     for i in 0..leaves.len() {
@@ -97,10 +106,10 @@ fn add_leaf(
     runs: &PackedRuns,
     place: &mut RunPlace,
 ) -> Result<(), AllocError>
-    requires within { AllByRecursion (λ (r : SavedRun). r.target + r.length ≤ counted.old.counts.size) (take number (runs_from runs.now place.old)) }
-    ensures size { OnOk result (counted.new.counts.size ≡ counted.old.counts.size) }
-    ensures listed { (before : List ℕ) → HasCountedThrice counted.old.counts before
-        → OnOk result (HasCountedThrice counted.new.counts (before ++ runs_used times (take number (runs_from runs.now place.old)))) }
+    requires within { AllByRecursion (λ (r : SavedRun). r.target + r.length ≤ counted.old.size) (take number (runs_from runs.now place.old)) }
+    ensures size { OnOk result (counted.new.size ≡ counted.old.size) }
+    ensures listed { (before : List ℕ) → HasCountedThrice counted.old before
+        → OnOk result (HasCountedThrice counted.new (before ++ runs_used times (take number (runs_from runs.now place.old)))) }
     ensures behind { OnOk result (runs_from runs.now place.new ≡ drop number (runs_from runs.now place.old)) }
 {
     let mut row = RunSpan {

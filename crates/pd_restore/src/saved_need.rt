@@ -1,16 +1,13 @@
 //! How many blocks a saved pool needs.
 
-ghost use Rattle.std.specs.Prelude.{◌≡◌, ◌+◌, ◌≤◌, map, IfOk, IfSome};
-ghost use Rattle.std.specs.List.{AllByRecursion};
-ghost use Rattle.pd_thin_meaning.specs.declared.joined.Run.{Run as SavedRun};
+ghost use Rattle.std.specs.Prelude.{◌≡◌, map, IfOk, IfSome};
 ghost use Rattle.pd_salvage.specs.declared.saved.SavedDevice.{SavedDevice as Device};
 ghost use Rattle.pd_salvage.specs.Saved.{pool_of};
-ghost use Rattle.pd_spells.specs.ThinNeed.{overflows_in, thin_need};
-ghost use Rattle.pd_restore.specs.Overflowing.{data_of_runs};
+ghost use Rattle.pd_spells.specs.ThinNeed.{mapped_data, overflows_in, thin_need};
+ghost use Rattle.pd_restore.specs.Overflowing.{HasCountedThrice};
 
 use crate::overflowing::Thrice;
 use pd_devices::need_thin;
-use pd_runs::PackedRuns;
 use pd_salvage::{Salvage, SavedDevice};
 use std::alloc::{AllocError, Global};
 
@@ -20,7 +17,7 @@ pub fn need_of_saved(alloc: Global, saved: &Salvage, room: u64) -> Option<u64>
     ensures { IfSome result (λ need. need ≡ thin_need (pool_of saved.now) room) }
 {
     let blocks = saved.head().blocks;
-    let over = match over_of(alloc, blocks, saved.runs()) {
+    let over = match over_of(alloc, saved) {
         Ok(over) => over,
         Err(_) => return None,
     };
@@ -42,12 +39,20 @@ fn mapped_of(alloc: Global, devices: &[SavedDevice]) -> Result<Vec<u64>, AllocEr
         .collect(alloc)
 }
 
-/// How many of so many data blocks stand three times or more in the runs.
-fn over_of(alloc: Global, blocks: u64, runs: &PackedRuns) -> Result<u64, AllocError>
-    requires { AllByRecursion (λ (r : SavedRun). r.target + r.length ≤ blocks) runs.now }
-    ensures { IfOk result (λ over. over ≡ overflows_in (data_of_runs runs.now) blocks) }
+/// How many data blocks stand three times or more in the mappings of all devices.
+fn over_of(alloc: Global, saved: &Salvage) -> Result<u64, AllocError>
+    ensures { IfOk result (λ over. over ≡ overflows_in (mapped_data (pool_of saved.now)) saved.now.head.blocks) }
 {
-    let mut counted = Thrice::new(alloc, blocks)?;
-    counted.add_runs(runs)?;
+    let counted = counted_of_saved(alloc, saved)?;
     Ok(counted.over())
+}
+
+/// How often each data block stands in the mappings of all devices, up to three times.
+pub fn counted_of_saved(alloc: Global, saved: &Salvage) -> Result<Thrice, AllocError>
+    ensures size { IfOk result (λ counted. counted.size ≡ saved.now.head.blocks) }
+    ensures counted { IfOk result (λ counted. HasCountedThrice counted (mapped_data (pool_of saved.now))) }
+{
+    let mut counted = Thrice::new(alloc, saved.head().blocks)?;
+    counted.add_runs(saved.runs())?;
+    Ok(counted)
 }

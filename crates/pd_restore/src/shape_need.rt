@@ -86,8 +86,8 @@ pub(crate) fn uses_of(
     pieces: &[PackedPiece],
 ) -> Result<Thrice, AllocError>
     requires { AllByRecursion (IsUseBelow leaves) pieces.now }
-    ensures size { IfOk result (λ counted. counted.counts.size ≡ leaves) }
-    ensures listed { IfOk result (λ counted. HasCountedThrice counted.counts (flat_map uses_of_saved pieces.now)) }
+    ensures size { IfOk result (λ counted. counted.size ≡ leaves) }
+    ensures listed { IfOk result (λ counted. HasCountedThrice counted (flat_map uses_of_saved pieces.now)) }
 {
     let mut counted = Thrice::new(alloc, leaves)?;
     for piece in pieces {
@@ -98,10 +98,10 @@ pub(crate) fn uses_of(
 
 /// Counts the leaf that a piece uses once more, where it uses one.
 fn count_use(counted: &mut Thrice, piece: &PackedPiece) -> Result<(), AllocError>
-    requires { IsUseBelow counted.old.counts.size piece.now }
-    ensures size { OnOk result (counted.new.counts.size ≡ counted.old.counts.size) }
-    ensures listed { (before : List ℕ) → HasCountedThrice counted.old.counts before
-        → OnOk result (HasCountedThrice counted.new.counts (before ++ uses_of_saved piece.now)) }
+    requires { IsUseBelow counted.old.size piece.now }
+    ensures size { OnOk result (counted.new.size ≡ counted.old.size) }
+    ensures listed { (before : List ℕ) → HasCountedThrice counted.old before
+        → OnOk result (HasCountedThrice counted.new (before ++ uses_of_saved piece.now)) }
 {
     match piece.piece() {
         SavedPiece::Own(_) => Ok(()),

@@ -7,16 +7,16 @@ use pd_thin_meaning::Run;
 
 /// So many elements from this one on.
 #[derive(Clone, Copy)]
-pub(crate) struct Span {
-    pub(crate) at: usize,
-    pub(crate) left: usize,
+pub struct Span {
+    pub at: usize,
+    pub left: usize,
 }
 
 impl Span {
     ghost use Rattle.pd_restore.specs.Spans.{in_span, behind};
 
     /// The next element, or none where there is none more. What stands behind the row stays.
-    pub(crate) fn next<'a, T>(&mut self, items: &'a [T]) -> Option<&'a T>
+    pub fn next<'a, T>(&mut self, items: &'a [T]) -> Option<&'a T>
         ensures some { IfSome result (λ item. in_span self.old items.now ≡ item.now ∷ in_span self.new items.now) }
         ensures at { IfSome result (λ item. self.new.at ≡ self.old.at + 1) }
         ensures fewer { IfSome result (λ item. self.new.left < self.old.left) }
@@ -43,16 +43,16 @@ impl Span {
 
 /// So many runs from this place on.
 #[derive(Clone, Copy)]
-pub(crate) struct RunSpan {
-    pub(crate) at: RunPlace,
-    pub(crate) left: usize,
+pub struct RunSpan {
+    pub at: RunPlace,
+    pub left: usize,
 }
 
 impl RunSpan {
     ghost use Rattle.pd_restore.specs.Spans.{behind_runs, in_runs};
 
     /// None, before the first run.
-    pub(crate) fn none_of(runs: &PackedRuns) -> RunSpan
+    pub fn none_of(runs: &PackedRuns) -> RunSpan
         ensures none { in_runs result runs.now ≡ [] }
         ensures behind { behind_runs result runs.now ≡ runs.now }
     {
@@ -63,7 +63,7 @@ impl RunSpan {
     }
 
     /// The next run, or none where there is none more. What stands behind the row stays.
-    pub(crate) fn next(&mut self, runs: &PackedRuns) -> Option<Run>
+    pub fn next(&mut self, runs: &PackedRuns) -> Option<Run>
         ensures some { IfSome result (λ run. in_runs self.old runs.now ≡ run ∷ in_runs self.new runs.now) }
         ensures fewer { IfSome result (λ run. self.new.left < self.old.left) }
         ensures none { IfNone result (in_runs self.old runs.now ≡ []) }

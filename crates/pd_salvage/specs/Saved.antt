@@ -15,6 +15,13 @@ pub record SavedPool : Type 0 where
   pub devices : List SavedDevice
   pub runs : List Run
 
+-- the same head with another snapshot count, and a pool with it, and with other devices
+abbrev pub head_at : SavedHead → ℕ → SavedHead
+head_at head time = record { uuid = head.uuid; time = time; transaction = head.transaction; block_size = head.block_size; blocks = head.blocks }
+
+abbrev pub with_devices : SavedPool → ℕ → List SavedDevice → SavedPool
+with_devices saved time devices = record { head = head_at saved.head time; devices = devices; runs = saved.runs }
+
 -- a device as a text gives it, with its runs
 abbrev pub part_of : SavedDevice → List Run → Part
 part_of d runs = record {

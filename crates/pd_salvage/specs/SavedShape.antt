@@ -9,6 +9,7 @@ use Rattle.pd_spells.specs.ThinText.{joined_runs}
 use Rattle.pd_thin_meaning.specs.declared.joined.Run.{Run}
 use Rattle.pd_thin_meaning.specs.Joined.{spelled}
 use Rattle.pd_salvage.specs.declared.saved.SavedHead.{SavedHead}
+use Rattle.pd_salvage.specs.Saved.{head_at}
 use Rattle.pd_salvage.specs.declared.saved_shape.SavedLeaf.{SavedLeaf}
 use Rattle.pd_salvage.specs.declared.saved_shape.SavedPiece.{SavedPiece}
 use Rattle.pd_salvage.specs.declared.saved_shape.SavedPiece.TheVariants.{Own, Shared}
@@ -27,6 +28,10 @@ pub record HeldShape : Type 0 where
 abbrev pub held : SavedHead → List SavedLeaf → List Run → List ShapedDevice → List SavedPiece → List Run → HeldShape
 held head leaves leaf_runs devices pieces runs =
     record { head = head; leaves = leaves; leaf_runs = leaf_runs; devices = devices; pieces = pieces; runs = runs }
+
+-- the same with another snapshot count, and with other devices
+abbrev pub with_devices : HeldShape → ℕ → List ShapedDevice → HeldShape
+with_devices h time devices = held (head_at h.head time) h.leaves h.leaf_runs devices h.pieces h.runs
 
 -- the leaves, each with as many of the runs as are its
 abbrev pub leaf_parts : List SavedLeaf → List Run → List (List text.Run)

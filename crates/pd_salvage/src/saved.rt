@@ -53,7 +53,7 @@ impl Model for Salvage {
 }
 
 impl Salvage {
-    ghost use Rattle.pd_salvage.specs.Saved.{IsSavedPool};
+    ghost use Rattle.pd_salvage.specs.Saved.{IsSavedPool, with_devices as pool_with};
 
     /// A pool of this head, these devices and these runs.
     pub fn of_parts(head: SavedHead, devices: Vec<SavedDevice>, runs: PackedRuns) -> Salvage
@@ -88,5 +88,18 @@ impl Salvage {
         ensures { result.now ≡ self.now.runs }
     {
         &self.runs
+    }
+
+    /// The same runs with another snapshot count, and as those of these devices.
+    pub fn with_devices(self, time: u32, devices: Vec<SavedDevice>) -> Salvage
+        requires { IsSavedPool (pool_with self time devices.items) }
+        ensures { result ≡ pool_with self time devices.items }
+    {
+        let Salvage { head, devices: _, runs } = self;
+        Salvage {
+            head: SavedHead { time, ..head },
+            devices,
+            runs,
+        }
     }
 }

@@ -76,7 +76,7 @@ impl Model for SavedShape {
 }
 
 impl SavedShape {
-    ghost use Rattle.pd_salvage.specs.SavedShape.{IsSavedShape, held};
+    ghost use Rattle.pd_salvage.specs.SavedShape.{IsSavedShape, held, with_devices as shape_with};
 
     /// A pool of this head, these leaves with the runs of all of them, and these devices with the pieces of all of them and
     /// the runs of all own pieces.
@@ -143,5 +143,28 @@ impl SavedShape {
         ensures { result.now ≡ self.now.runs }
     {
         &self.runs
+    }
+
+    /// The same leaves, pieces and runs with another snapshot count, and as those of these devices.
+    pub fn with_devices(self, time: u32, devices: Vec<ShapedDevice>) -> SavedShape
+        requires { IsSavedShape (shape_with self time devices.items) }
+        ensures { result ≡ shape_with self time devices.items }
+    {
+        let SavedShape {
+            head,
+            leaves,
+            leaf_runs,
+            devices: _,
+            pieces,
+            runs,
+        } = self;
+        SavedShape {
+            head: SavedHead { time, ..head },
+            leaves,
+            leaf_runs,
+            devices,
+            pieces,
+            runs,
+        }
     }
 }

@@ -1,5 +1,5 @@
 -- What the work of a repair from named roots comes to, and that of a dry run without a superblock, over plain variables.
-use Rattle.std.proofs.Common.{◌≡◌, ◌≢◌, inl, ℕ, Bool, true, false, IsTrue, List, [], ◌∷◌, length, Option, Some, None, IfSome, Result, Ok, Err, min, refl, sym, ap, ◌∙◌, subst}
+use Rattle.std.proofs.Common.{◌≡◌, ◌≢◌, inl, ℕ, Bool, true, false, IsTrue, List, [], ◌∷◌, length, Option, Some, None, IfSome, Result, Ok, Err, min, refl, sym, ap, ap₂, ◌∙◌, subst}
 use Rattle.std.specs.Option.{option_map, option_map_or}
 use Rattle.std.specs.Prelude.{IfErr}
 use Rattle.pd_kinds.specs.declared.fault.Fault.{Fault}
@@ -13,7 +13,7 @@ use Rattle.pd_image.specs.Device.{KeepsPlace, OnlyReads}
 use Rattle.pd_answers.specs.Answer.{AreFresh, Objects, reading}
 use Rattle.pd_answers.specs.KeptLines.{IsTold, told_from, told_text}
 use Rattle.pd_answers.specs.NamedRepairs.{dry_search, dry_search_statuses, repair_named, saved_from_named, text_without_super}
-use Rattle.pd_answers.specs.NamedRoots.{GivenSuper, NamedRoots, named_fields, saved_time}
+use Rattle.pd_answers.specs.NamedRoots.{GivenSuper, NamedRoots, named_fields, pool_time, saved_time, timeless_fields}
 use Rattle.pd_answers.specs.Repairs.{Saved}
 use Rattle.pd_answers.specs.SearchLines.{no_roots_line}
 use Rattle.pd_answers.specs.Terms.{Terms, is_one_of, is_possible}
@@ -30,7 +30,7 @@ use Rattle.pd_salvage.specs.Faults.{CountsSalvage}
 use Rattle.pd_scan.specs.Roots.{lost_fields}
 use Rattle.pd_tools.specs.Ending.{repair_ended}
 use Rattle.pd_tools.specs.Opened.{AreOpened, Devices, IsOpened, devices_of}
-use Rattle.pd_tools.specs.Saved.{saved_by, saved_content}
+use Rattle.pd_tools.specs.Saved.{saved_content, seen_by}
 use Rattle.pd_tools.specs.Stop.{salvage_stop}
 use Rattle.pd_tools.specs.Task.{AreAlone, IsAtRest, IsDone, IsEnded, IsHalted, IsMeasured, Works}
 use Rattle.pd_tools.proofs.Queries.{two_told}
@@ -53,7 +53,13 @@ halts_unread terms path before opened notes last_input both input output third r
     by f.Memory counts = halted_at_rest terms before (read_by before opened notes last_input) _ rest wanting memory
     by f.Device counts = halted_at_rest terms before (read_by before opened notes last_input) _ rest failed (inl (rw input.faults at counts.0))
 
--- the superblock of named roots
+-- the superblock of named roots, without a time and with one
+pub timeless_is : (image : Image) (given : GivenSuper) (named : NamedRoots) (blocks : ℕ) → length image ≡ blocks
+    → lost_fields (record { top = named.top; details = named.details; mappings = 0; time = 0; transaction = 0; times = 0 }) given.transaction given.block_size (min blocks MAX_META_BLOCKS) given.blocks
+    ≡ timeless_fields image given named
+unfolding lost_graph graph_of
+timeless_is image given named blocks number = rw (sym number) refl
+
 pub fields_named : (image : Image) (given : GivenSuper) (named : NamedRoots) (blocks time : ℕ) → length image ≡ blocks
     → let timeless = lost_fields (record { top = named.top; details = named.details; mappings = 0; time = 0; transaction = 0; times = 0 }) given.transaction given.block_size (min blocks MAX_META_BLOCKS) given.blocks in
     time ≡ saved_time timeless image → ◌≡◌ {A = ThinFields} (record timeless { time = time }) (named_fields image given named)
@@ -75,8 +81,9 @@ pub named_rests : (shared : Bool) (given : GivenSuper) (named : NamedRoots) (fro
     → IsAtRest (repair_named shared from to given named) before after
 named_rests shared given named from to = repair_rests no_faults named_statuses shared (saved_named shared given named) from to
 
--- what is saved by that superblock is what is saved from the roots
-saved_so : (shared : Bool) (given : GivenSuper) (named : NamedRoots) (image : Image) → saved_by shared (named_fields image given named) image ≡ saved_named shared given named image
+-- what is saved by that superblock, with the pool's own time, is what is saved from the roots
+saved_so : (shared : Bool) (given : GivenSuper) (named : NamedRoots) (image : Image)
+    → seen_by shared (pool_time (timeless_fields image given named) image) (named_fields image given named) image ≡ saved_named shared given named image
 saved_so false given named image = refl
 saved_so true given named image = refl
 
@@ -102,19 +109,24 @@ none_refused result has rules is = rw is at has
 
 pub named_works : (shared : Bool) (given : GivenSuper) (named : NamedRoots) (from to : List ℕ) (before after : Objects) (opened : Devices) → AreFresh before
     → AreOpened (repair_named shared from to given named).uses (devices_of before) opened → IfSome opened.output.held (λ image. length image ≡ opened.output.blocks) → KeepsPlace opened.output after.output
-    → (s : ThinFields) → IfSome opened.input.held (λ image. s ≡ named_fields image given named)
-    → (result : Result (Unit {0}) RepairFault) → IsRepairedFromAs (saved_content shared) (saved_by shared) s result opened.input opened.output after.output → HasSuper result
+    → (s : ThinFields) (time : ℕ) → IfSome opened.input.held (λ image. s ≡ named_fields image given named)
+    → IfSome opened.input.held (λ image. time ≡ pool_time (timeless_fields image given named) image)
+    → (result : Result (Unit {0}) RepairFault) → IsRepairedFromAs (saved_content shared) (seen_by shared time) s result opened.input opened.output after.output → HasSuper result
     → CountsRepair result opened.input.faults after.input.faults opened.output.faults after.output.faults → Works (repair_named shared from to given named) before after (repair_ended result)
-named_works shared given named from to before after opened fresh both measured place s told result done has counts =
+named_works shared given named from to before after opened fresh both measured place s time told timed result done has counts =
     repair_works no_faults named_statuses (record { done = refl; no_room = refl; failed = refl; wanting = refl }) shared (saved_named shared given named) from to before after opened fresh both measured place result
     (record {
       pool = done.pool;
-      right = two_told opened.input.held (λ image is saved. saved ∙ (ap (λ (fields : ThinFields). saved_by shared fields image) is ∙ saved_so shared given named image)) told done.right;
+      right = two_told opened.input.held (λ image is saved. saved
+          ∙ (ap₂ (λ (fields : ThinFields) (n : ℕ). seen_by shared n fields image) is.0 is.1 ∙ saved_so shared given named image)) told_both done.right;
       rules = any opened.input.held;
       output = done.output;
     })
     (λ rules is. absurd (none_refused result has rules is)) (names_none result has) counts
   where
+    told_both : IfSome opened.input.held (λ image. (s ≡ named_fields image given named) × (time ≡ pool_time (timeless_fields image given named) image))
+    told_both = two_told opened.input.held (λ image is when. (is, when)) told timed
+
     any : (held : Option Image) → IfSome held (λ image. AnswersSuper result [])
     any None = tt
     any (Some image) = answers_none result has

@@ -16,7 +16,8 @@ use Rattle.pd_image.specs.Device.{KeepsPlace, OnlyReads}
 use Rattle.pd_answers.specs.Answer.{Answer, AreFresh, Objects}
 use Rattle.pd_answers.specs.Makings.{Lays, Making}
 use Rattle.pd_answers.specs.Repairs.{Saved, saved_making, saved_of}
-use Rattle.pd_answers.specs.Searches.{LeavesFound, Searched, found_shape, saved_from, searched_answer}
+use Rattle.pd_answers.specs.Searches.{LeavesFound, Searched, found_from, found_shape, saved_from, searched_answer}
+use Rattle.pd_answers.specs.Seen.{seen, timed}
 use Rattle.pd_answers.specs.SearchLines.{no_roots_line, roots_line}
 use Rattle.pd_answers.specs.Terms.{Terms, is_possible}
 use Rattle.pd_repair.specs.declared.fault.RepairFault.{RepairFault}
@@ -30,7 +31,8 @@ use Rattle.pd_tools.specs.declared.stop.Stop.{Stop}
 use Rattle.pd_tools.specs.declared.stop.Stop.TheVariants.{Device, Memory}
 use Rattle.pd_tools.specs.Ending.{repair_ended}
 use Rattle.pd_tools.specs.Opened.{AreOpened, Devices, devices_of}
-use Rattle.pd_tools.specs.Saved.{saved_by, saved_content}
+use Rattle.pd_kinds.specs.ThinSuper.{ThinFields}
+use Rattle.pd_tools.specs.Saved.{saved_by, saved_content, seen_by}
 use Rattle.pd_tools.specs.Search.{terms_of_search}
 use Rattle.pd_tools.specs.Stop.{stop_status}
 use Rattle.pd_tools.specs.Task.{AreAlone, IsAtRest, IsDone, IsEnded, IsHalted, IsMeasured, Works}
@@ -162,22 +164,29 @@ unfolding found_shape
 shape_found image data_blocks transaction block_size roots =
     ap (λ (n : ℕ). saved_shape_from (lost_fields roots transaction block_size (lost_graph image data_blocks).nr n) image) (sym (lost_data image data_blocks))
 
--- what is saved by that superblock is what is saved from the roots
+-- what is saved by that superblock is what is found below the roots
 saved_whole : AreSavedWhole → (shared : Bool) (image : Image) (data_blocks transaction block_size : ℕ) (roots : FoundRoots) → HasBytes image
     → are_fitting (lost_graph image data_blocks) image roots.top roots.details ≡ true
     → saved_by shared (lost_fields roots transaction block_size (lost_graph image data_blocks).nr data_blocks) image
-    ≡ saved_from shared (lost_graph image data_blocks) image transaction block_size roots
+    ≡ found_from shared (lost_graph image data_blocks) image transaction block_size roots
 saved_whole whole false image data_blocks transaction block_size roots bytes fitting = whole image data_blocks transaction block_size roots bytes fitting
 saved_whole whole true image data_blocks transaction block_size roots bytes fitting = shape_found image data_blocks transaction block_size roots
 
+-- a superblock's own time changes nothing
+timed_same : (shared : Bool) (fields : ThinFields) (image : Image) → timed shared fields.time (saved_by shared fields image) ≡ saved_by shared fields image
+unfolding salvage_from saved_shape_from
+timed_same false fields image = refl
+timed_same true fields image = refl
+
 saved_found : AreSavedWhole → (shared : Bool) (given : GivenSuper) (roots : FoundRoots) (blocks : ℕ) (saved : Saved shared) (image : Image) → HasBytes image → length image ≡ blocks
     → AreBest (lost_graph image given.blocks) image roots
-    → saved ≡ saved_by shared (lost_fields roots given.transaction given.block_size (min blocks MAX_META_BLOCKS) given.blocks) image
+    → saved ≡ seen_by shared roots.time (lost_fields roots given.transaction given.block_size (min blocks MAX_META_BLOCKS) given.blocks) image
     → saved ≡ saved_from shared (lost_graph image given.blocks) image given.transaction given.block_size roots
 saved_found whole shared given roots blocks saved image bytes number best is =
     let nr : min blocks MAX_META_BLOCKS ≡ (lost_graph image given.blocks).nr = sym (lost_nr image given.blocks ∙ ap (λ (n : ℕ). min n MAX_META_BLOCKS) number) in
-    is ∙ ap (λ (n : ℕ). saved_by shared (lost_fields roots given.transaction given.block_size n given.blocks) image) nr
-    ∙ saved_whole whole shared image given.blocks given.transaction given.block_size roots bytes best.fitting
+    is ∙ ap (λ (n : ℕ). seen_by shared roots.time (lost_fields roots given.transaction given.block_size n given.blocks) image) nr
+    ∙ ap (seen shared) (timed_same shared (lost_fields roots given.transaction given.block_size (lost_graph image given.blocks).nr given.blocks) image
+    ∙ saved_whole whole shared image given.blocks given.transaction given.block_size roots bytes best.fitting)
 
 -- devices that were attached, and roots that were found
 module _ (shared : Bool) (given : GivenSuper) (from to : List ℕ) (before after : Objects) (opened : Devices) (fresh : AreFresh before) (unput : after.out ≡ before.out)
@@ -186,7 +195,7 @@ module _ (shared : Bool) (given : GivenSuper) (from to : List ℕ) (before after
     (whole : AreSavedWhole) (bytes : IfSome opened.input.held HasBytes) (number : IfSome opened.input.held (λ image. length image ≡ opened.input.blocks))
     (roots : FoundRoots) (best : IfSome opened.input.held (λ image. AreBest (lost_graph image given.blocks) image roots))
     (result : Result (Unit {0}) RepairFault)
-    (done : IsRepairedFromAs (saved_content shared) (saved_by shared) (lost_fields roots given.transaction given.block_size (min opened.input.blocks MAX_META_BLOCKS) given.blocks)
+    (done : IsRepairedFromAs (saved_content shared) (seen_by shared roots.time) (lost_fields roots given.transaction given.block_size (min opened.input.blocks MAX_META_BLOCKS) given.blocks)
     result opened.input opened.output after.output) where
   abbrev terms : Terms
   terms = terms_of_search shared given from to

@@ -78,7 +78,7 @@ fn look<A: Device>(
     match named {
         Some(roots) => {
             let s = named_super(alloc, input, given, &roots)?;
-            let kept = kept_by_repair(alloc, input, &s)?;
+            let kept = kept_by_repair(alloc, input, &s.fields)?;
             Ok(Some(Looked {
                 states: Vec::new(alloc),
                 kept,

@@ -2,7 +2,7 @@
 
 ghost use Rattle.std.specs.Prelude.{◌≡◌, ◌≤◌, IfOk, IfSome};
 ghost use Rattle.pd_image.specs.Device.{IsAttached, OnlyReads};
-ghost use Rattle.pd_answers.specs.NamedRoots.{named_fields};
+ghost use Rattle.pd_answers.specs.NamedRoots.{named_fields, pool_time, timeless_fields};
 ghost use Rattle.pd_salvage.specs.Faults.{CountsSalvage};
 ghost use Rattle.pd_words.specs.Words.{IsPoolSize, given_as, named_as};
 
@@ -55,11 +55,25 @@ impl Task for NamedRepair<'_> {
         third: &mut C,
     ) -> Result<Outcome, Stop> {
         let s = named_super(alloc, input, &self.given, &self.named)?;
-        ended_of(repair_lost(alloc, self.shared, input, output, &s))
+        ended_of(repair_lost(
+            alloc,
+            self.shared,
+            input,
+            output,
+            &s.fields,
+            s.time,
+        ))
     }
 }
 
-/// The superblock of a pool with these roots, and with the time of what is saved from them.
+/// The superblock of a pool whose roots are named, with the time that lost details get, and the pool's own time.
+#[derive(Clone, Copy)]
+pub(crate) struct NamedSuper {
+    pub(crate) fields: ThinSuper,
+    pub(crate) time: u32,
+}
+
+/// The superblock of a pool with these roots, and the times of what is saved from them.
 ///
 /// Fails with `Device` where a read failed, and with `Memory` where memory wasn't found.
 pub(crate) fn named_super<A: Device>(
@@ -67,13 +81,14 @@ pub(crate) fn named_super<A: Device>(
     input: &mut A,
     given: &GivenSuper,
     named: &NamedRoots,
-) -> Result<ThinSuper, SalvageFault>
+) -> Result<NamedSuper, SalvageFault>
     requires attached { IsAttached (A.state input.old) }
     requires size { IsPoolSize given.now.blocks }
-    ensures named { IfOk result (λ s. IfSome (A.state input.old).held (λ image. s ≡ named_fields image (given_as given.now) (named_as named.now))) }
-    ensures within { IfOk result (λ s. s.meta_map.blocks ≤ (A.state input.old).blocks) }
-    ensures few { IfOk result (λ s. s.meta_map.blocks ≤ 4161600) }
-    ensures data { IfOk result (λ s. s.data_map.blocks ≡ given.now.blocks) }
+    ensures named { IfOk result (λ s. IfSome (A.state input.old).held (λ image. s.fields ≡ named_fields image (given_as given.now) (named_as named.now))) }
+    ensures time { IfOk result (λ s. IfSome (A.state input.old).held (λ image. s.time ≡ pool_time (timeless_fields image (given_as given.now) (named_as named.now)) image)) }
+    ensures within { IfOk result (λ s. s.fields.meta_map.blocks ≤ (A.state input.old).blocks) }
+    ensures few { IfOk result (λ s. s.fields.meta_map.blocks ≤ 4161600) }
+    ensures data { IfOk result (λ s. s.fields.data_map.blocks ≡ given.now.blocks) }
     ensures kept { OnlyReads (A.state input.old) (A.state input.new) }
     ensures faults { CountsSalvage result (A.state input.old).faults (A.state input.new).faults }
 {
@@ -84,8 +99,14 @@ pub(crate) fn named_super<A: Device>(
         usable_blocks(input),
         given.blocks,
     );
-    let time = time_of_saved(alloc, input, &timeless)?;
-    Ok(ThinSuper { time, ..timeless })
+    let times = time_of_saved(alloc, input, &timeless)?;
+    Ok(NamedSuper {
+        fields: ThinSuper {
+            time: times.lost,
+            ..timeless
+        },
+        time: times.pool,
+    })
 }
 
 /// The roots, of which nothing else is known.

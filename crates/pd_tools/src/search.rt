@@ -11,7 +11,7 @@ ghost use Rattle.pd_words.specs.Words.{IsPoolSize};
 ghost use Rattle.pd_answers.specs.Answer.{AreFresh, Objects};
 ghost use Rattle.pd_answers.specs.SearchLines.{roots_line};
 ghost use Rattle.pd_tools.specs.Opened.{AreOpened, Devices, devices};
-ghost use Rattle.pd_tools.specs.Saved.{saved_by, saved_content};
+ghost use Rattle.pd_tools.specs.Saved.{saved_content, seen_by};
 ghost use Rattle.pd_tools.specs.Search.{terms_of_search};
 ghost use Rattle.pd_tools.specs.Task.{Works};
 
@@ -24,7 +24,7 @@ use pd_image::Device;
 use pd_kept::usable_blocks;
 use pd_kinds::{CheckFault, ThinSuper};
 use pd_lines::LineBuffer;
-use pd_repair::{RepairFault, repair_from, repair_shared_from};
+use pd_repair::{RepairFault, repair_seen, repair_seen_shared};
 use pd_scan::{Roots, find_roots, found_pools_are_saved_whole, lost_super};
 use pd_words::GivenSuper;
 use std::alloc::Global;
@@ -108,35 +108,37 @@ fn write_found<A: Device, B: Device>(
         meta_blocks,
         given.blocks,
     );
-    match repair_lost(alloc, shared, input, output, &lost) {
+    match repair_lost(alloc, shared, input, output, &lost, lost.time) {
         Ok(()) => Ok(Outcome::Line(roots_text(roots))),
         Err(fault) => ended_of(Err(fault)),
     }
 }
 
-/// Writes what can be saved of the pool with this superblock, with the leaves that its devices share or without.
+/// Writes what can be saved of the pool with this superblock, with this as the pool's time, and with sharing seen in it; with the
+/// leaves that its devices share or without.
 pub(crate) fn repair_lost<A: Device, B: Device>(
     alloc: Global,
     shared: bool,
     input: &mut A,
     output: &mut B,
     lost: &ThinSuper,
+    time: u32,
 ) -> Result<(), RepairFault>
     requires attached { IsAttached (A.state input.old) }
     requires writable { IsWritable (B.state output.old) }
     requires there { lost.now.meta_map.blocks ≤ (A.state input.old).blocks }
     requires few { lost.now.meta_map.blocks ≤ 4161600 }
     requires data { lost.now.data_map.blocks ≤ 2 ^ 40 }
-    ensures repaired { IsRepairedFromAs (saved_content shared) (saved_by shared) lost.now result (A.state input.old) (B.state output.old) (B.state output.new) }
+    ensures repaired { IsRepairedFromAs (saved_content shared) (seen_by shared time) lost.now result (A.state input.old) (B.state output.old) (B.state output.new) }
     ensures sound { HasSuper result }
     ensures input { OnlyReads (A.state input.old) (A.state input.new) }
     ensures place { KeepsPlace (B.state output.old) (B.state output.new) }
     ensures causes { CountsRepair result (A.state input.old).faults (A.state input.new).faults (B.state output.old).faults (B.state output.new).faults }
 {
     if shared {
-        repair_shared_from(alloc, input, output, lost)
+        repair_seen_shared(alloc, input, output, lost, time)
     } else {
-        repair_from(alloc, input, output, lost)
+        repair_seen(alloc, input, output, lost, time)
     }
 }
 

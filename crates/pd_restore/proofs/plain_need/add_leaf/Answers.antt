@@ -16,7 +16,7 @@ loop-run-init c =
     let row : RunSpan = record { at = c.args.place.now; left = c.args.number } in
     record {
       size = refl;
-      within = subst (AllByRecursion (IsWithin c.args.counted.now.counts.size)) (sym (row_taken row runs)) c.requires.within;
+      within = subst (AllByRecursion (IsWithin c.args.counted.now.size)) (sym (row_taken row runs)) c.requires.within;
       listed = λ before counted. record {
         first = before;
         counted = counted;
@@ -41,7 +41,7 @@ loop-run-preserved c =
       within = within.1;
       listed = λ before counted.
           let counts = c.loop-run.invariant.listed before counted in
-          counts_next c.loop-run.counted.counts c.add_run_times.new.self.counts (before ++ runs_used times (take c.args.number (runs_from runs c.args.place.now)))
+          counts_next c.loop-run.counted c.add_run_times.new.self (before ++ runs_used times (take c.args.number (runs_from runs c.args.place.now)))
           (runs_used times (in_runs c.loop-run.row runs)) (copies times (range_with_len run.target run.length)) (runs_used times (in_runs c.next.new.self runs)) counts
           (ap (λ (rs : List Run). runs_used times rs) c.in-Some.ensures.some) (c.in_ok-add_run_times.ensures.listed counts.first counts.counted);
       stays = c.next.ensures.behind ∙ c.loop-run.invariant.stays;
@@ -50,7 +50,7 @@ loop-run-preserved c =
 pub returns-clause-listed : goal.returns-clause-listed
 returns-clause-listed c before counted =
     let runs = c.args.runs.now in
-    counts_all c.loop-run.counted.counts (before ++ runs_used c.args.times (take c.args.number (runs_from runs c.args.place.now))) (runs_used c.args.times (in_runs c.loop-run.row runs))
+    counts_all c.loop-run.counted (before ++ runs_used c.args.times (take c.args.number (runs_from runs c.args.place.now))) (runs_used c.args.times (in_runs c.loop-run.row runs))
     (c.loop-run.invariant.listed before counted) (ap (λ (rs : List Run). runs_used c.args.times rs) c.in_default.ensures.none)
 
 pub returns-clause-behind : goal.returns-clause-behind

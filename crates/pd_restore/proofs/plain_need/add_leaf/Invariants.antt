@@ -9,10 +9,10 @@ use Rattle.pd_restore.proofs.plain_need.add_leaf.Given as goal
 
 abbrev pub invariant-loop-run : goal.invariant-loop-run
 invariant-loop-run l = record {
-  size : l.counted.counts.size ≡ l.initial.counted.counts.size;
-  within : AllByRecursion (IsWithin l.initial.counted.counts.size) (in_runs l.row l.runs);
-  listed : (before : List ℕ) → HasCountedThrice l.initial.counted.counts before
-      → CountsFirst l.counted.counts (before ++ runs_used l.times (take l.number (runs_from l.runs l.initial.place))) (runs_used l.times (in_runs l.row l.runs));
+  size : l.counted.size ≡ l.initial.counted.size;
+  within : AllByRecursion (IsWithin l.initial.counted.size) (in_runs l.row l.runs);
+  listed : (before : List ℕ) → HasCountedThrice l.initial.counted before
+      → CountsFirst l.counted (before ++ runs_used l.times (take l.number (runs_from l.runs l.initial.place))) (runs_used l.times (in_runs l.row l.runs));
   stays : behind_runs l.row l.runs ≡ drop l.number (runs_from l.runs l.initial.place);
 }
 

@@ -9,8 +9,8 @@ use Rattle.pd_restore.proofs.plain_need.add_leaves.Given as goal
 
 abbrev pub invariant-loop-i : goal.invariant-loop-i
 invariant-loop-i l = record {
-  size : l.counted.counts.size ≡ l.initial.counted.counts.size;
-  within : AllByRecursion (IsWithin l.initial.counted.counts.size) (runs_from l.runs l.place);
-  listed : (before : List ℕ) → HasCountedThrice l.initial.counted.counts before
-      → CountsFirst l.counted.counts (before ++ leaves_used (count_of l.uses.counts) 0 l.leaves l.runs) (leaves_used (count_of l.uses.counts) l.i (drop l.i l.leaves) (runs_from l.runs l.place));
+  size : l.counted.size ≡ l.initial.counted.size;
+  within : AllByRecursion (IsWithin l.initial.counted.size) (runs_from l.runs l.place);
+  listed : (before : List ℕ) → HasCountedThrice l.initial.counted before
+      → CountsFirst l.counted (before ++ leaves_used (count_of l.uses) 0 l.leaves l.runs) (leaves_used (count_of l.uses) l.i (drop l.i l.leaves) (runs_from l.runs l.place));
 }

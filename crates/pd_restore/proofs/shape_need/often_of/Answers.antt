@@ -7,4 +7,4 @@ use Rattle.pd_restore.proofs.shape_need.often_of.Goals as goal
 pub returns : goal.returns
 returns c =
     let counted = c.in_ok-counted.counted in
-    c.over.ensures ∙ over_all counted.counts (flat_map uses_of_saved c.args.pieces.now) c.args.leaves c.in_ok-counted.ensures.size c.in_ok-counted.ensures.listed
+    c.over.ensures ∙ over_all counted (flat_map uses_of_saved c.args.pieces.now) c.args.leaves c.in_ok-counted.ensures.size c.in_ok-counted.ensures.listed

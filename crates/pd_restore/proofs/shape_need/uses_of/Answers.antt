@@ -8,5 +8,5 @@ use Rattle.pd_restore.proofs.shape_need.uses_of.Goals as goal
 
 pub returns-clause-listed : goal.returns-clause-listed
 returns-clause-listed c =
-    subst (λ (ps : List SavedPiece). HasCountedThrice c.loop-piece.counted.counts (flat_map uses_of_saved ps)) (take_all c.loop-piece.piece-index c.args.pieces.now c.loop-piece-test.false)
+    subst (λ (ps : List SavedPiece). HasCountedThrice c.loop-piece.counted (flat_map uses_of_saved ps)) (take_all c.loop-piece.piece-index c.args.pieces.now c.loop-piece-test.false)
     c.loop-piece.invariant.listed

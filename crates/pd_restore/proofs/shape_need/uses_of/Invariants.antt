@@ -6,6 +6,6 @@ use Rattle.pd_restore.proofs.shape_need.uses_of.Given as goal
 
 abbrev pub invariant-loop-piece : goal.invariant-loop-piece
 invariant-loop-piece l = record {
-  size : l.counted.counts.size ≡ l.leaves;
-  listed : HasCountedThrice l.counted.counts (flat_map uses_of_saved (take l.piece-index l.pieces));
+  size : l.counted.size ≡ l.leaves;
+  listed : HasCountedThrice l.counted (flat_map uses_of_saved (take l.piece-index l.pieces));
 }

@@ -10,6 +10,6 @@ loop-i-preserved c =
     let i = c.loop-i.i in
     record {
       size = c.in_ok-add.ensures.size ∙ c.loop-i.invariant.size;
-      listed = λ before counted. subst (HasCountedThrice c.add.new.self.counts) (row_more first i before)
+      listed = λ before counted. subst (HasCountedThrice c.add.new.self) (row_more first i before)
           (c.in_ok-add.ensures.listed (before ++ range_with_len first i) (c.loop-i.invariant.listed before counted));
     }

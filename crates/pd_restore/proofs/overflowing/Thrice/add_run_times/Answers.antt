@@ -7,7 +7,7 @@ use Rattle.pd_restore.proofs.overflowing.Thrice.add_run_times.Goals as goal
 pub loop-i-init : goal.loop-i-init
 loop-i-init c = record {
   size = refl;
-  listed = λ before counted. subst (HasCountedThrice c.args.self.now.counts) (sym (copies_none before (range_with_len c.args.first c.args.length))) counted;
+  listed = λ before counted. subst (HasCountedThrice c.args.self.now) (sym (copies_none before (range_with_len c.args.first c.args.length))) counted;
 }
 
 pub loop-i-preserved : goal.loop-i-preserved
@@ -16,6 +16,6 @@ loop-i-preserved c =
     let i = c.loop-i._i in
     record {
       size = c.in_ok-add_run.ensures.size ∙ c.loop-i.invariant.size;
-      listed = λ before counted. subst (HasCountedThrice c.add_run.new.self.counts) (copies_more before row i)
+      listed = λ before counted. subst (HasCountedThrice c.add_run.new.self) (copies_more before row i)
           (c.in_ok-add_run.ensures.listed (before ++ copies i row) (c.loop-i.invariant.listed before counted));
     }

@@ -5,6 +5,6 @@ use Rattle.pd_restore.proofs.overflowing.Thrice.add_run_times.Given as goal
 
 abbrev pub invariant-loop-i : goal.invariant-loop-i
 invariant-loop-i l = record {
-  size : l.self.counts.size ≡ l.initial.self.counts.size;
-  listed : (before : List ℕ) → HasCountedThrice l.initial.self.counts before → HasCountedThrice l.self.counts (before ++ copies l._i (range_with_len l.first l.length));
+  size : l.self.size ≡ l.initial.self.size;
+  listed : (before : List ℕ) → HasCountedThrice l.initial.self before → HasCountedThrice l.self (before ++ copies l._i (range_with_len l.first l.length));
 }

@@ -27,12 +27,12 @@ loop-run-preserved c =
       within = within.1;
       listed = λ before counted.
           let counts = c.loop-run.invariant.listed before counted in
-          counts_next c.loop-run.self.counts c.add_run.new.self.counts (before ++ data_of_runs runs) (data_of_runs (runs_from runs c.loop-run.place)) (range_with_len c.in-Some.run'.target c.in-Some.run'.length)
+          counts_next c.loop-run.self c.add_run.new.self (before ++ data_of_runs runs) (data_of_runs (runs_from runs c.loop-run.place)) (range_with_len c.in-Some.run'.target c.in-Some.run'.length)
           (data_of_runs (runs_from runs c.next.new.place)) counts (ap data_of_runs c.in-Some.ensures)
           (c.in_ok-add_run.ensures.listed counts.first counts.counted);
     }
 
 pub returns-clause-listed : goal.returns-clause-listed
 returns-clause-listed c before counted =
-    counts_all c.loop-run.self.counts (before ++ data_of_runs c.args.runs.now) (data_of_runs (runs_from c.args.runs.now c.loop-run.place)) (c.loop-run.invariant.listed before counted)
+    counts_all c.loop-run.self (before ++ data_of_runs c.args.runs.now) (data_of_runs (runs_from c.args.runs.now c.loop-run.place)) (c.loop-run.invariant.listed before counted)
     (ap data_of_runs c.in_default.ensures.0)

@@ -7,9 +7,9 @@ use Rattle.pd_restore.proofs.overflowing.Thrice.add_runs.Given as goal
 
 abbrev pub invariant-loop-run : goal.invariant-loop-run
 invariant-loop-run l = record {
-  size : l.self.counts.size ≡ l.initial.self.counts.size;
-  within : AllByRecursion (IsWithin l.initial.self.counts.size) (runs_from l.runs l.place);
-  listed : (before : List ℕ) → HasCountedThrice l.initial.self.counts before → CountsFirst l.self.counts (before ++ data_of_runs l.runs) (data_of_runs (runs_from l.runs l.place));
+  size : l.self.size ≡ l.initial.self.size;
+  within : AllByRecursion (IsWithin l.initial.self.size) (runs_from l.runs l.place);
+  listed : (before : List ℕ) → HasCountedThrice l.initial.self before → CountsFirst l.self (before ++ data_of_runs l.runs) (data_of_runs (runs_from l.runs l.place));
 }
 
 abbrev pub decreases-loop-run : goal.decreases-loop-run

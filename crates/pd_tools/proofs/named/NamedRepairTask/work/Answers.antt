@@ -21,7 +21,7 @@ returns-clause-works g c others notes first fresh was =
       output = was.output;
       third = was.third;
     })
-    (g.met.B.Device.measured c.args.output.now) c.repair_lost.ensures.place c.in_ok-s.s (rw kept.held c.in_ok-s.ensures.named)
+    (g.met.B.Device.measured c.args.output.now) c.repair_lost.ensures.place c.in_ok-s.s.fields c.in_ok-s.s.time (rw kept.held c.in_ok-s.ensures.named) (rw kept.held c.in_ok-s.ensures.time)
     c.repair_lost.result c.repair_lost.ensures.repaired c.repair_lost.ensures.sound c.repair_lost.ensures.causes)
 
 pub returns-in_err-s-clause-works : goal.returns-in_err-s-clause-works
