@@ -398,19 +398,18 @@ fn std_sink_makes_and_cuts_its_file(rt: HostRuntime) -> Result<(), Fail> {
         &[(b"ab", true), (b"\xff", true)],
     )?;
     assert!(rt; fs::read(&rt, "sink.txt")?.as_slice() == b"ab\xff".as_slice());
-    assert!(rt; StdSink::out(&files).attach(Some("missing/sink.txt")).is_err());
+    assert!(rt;
+        StdSink::out(&files)
+            .attach(Some("missing/sink.txt"))
+            .is_err()
+    );
     remove_file(&rt, "sink.txt")
 }
 
 #[test]
 fn std_sink_writes_any_bytes_to_the_standard_output(rt: HostRuntime) -> Result<(), Fail> {
     let files = OpenFiles::new(&rt)?;
-    expect_puts(
-        &rt,
-        &mut StdSink::out(&files),
-        None,
-        &[(b"\xff\n", true)],
-    )
+    expect_puts(&rt, &mut StdSink::out(&files), None, &[(b"\xff\n", true)])
 }
 
 #[test]
