@@ -3,6 +3,7 @@
 use std::cell::Cell;
 use std::fs::{Metadata, OpenFile, OpenOptions};
 use std::io::ErrorKind;
+use std::os::fd::AsRawFd;
 use std::os::unix::fs::{FileTypeExt, MetadataExt};
 use std::rt::Files;
 use std::{fs, io};
@@ -25,24 +26,30 @@ enum FileId {
 #[derive(Drop)]
 pub struct OpenFiles<'a, R: Files> {
     pub(crate) rt: &'a R,
-    _numbers: (R::File, R::File, R::File),
+    /// The null device in the place of each standard stream that was closed.
+    _numbers: (Option<R::File>, Option<R::File>, Option<R::File>),
     /// Where standard output and standard error go, if that is a file or a block device.
     streams: [Option<FileId>; 2],
     /// What the text and the three devices have opened.
     objects: Cell<[Option<FileId>; 4]>,
 }
 
-impl<'a, R: Files> OpenFiles<'a, R> {
-    /// Takes the numbers of the standard streams that are closed. Nothing may be open before but these streams.
+impl<'a, R: Files> OpenFiles<'a, R>
+where
+    R::File: AsRawFd,
+{
+    /// Takes the numbers of the standard streams that are closed. The program has opened nothing before.
     pub fn new(rt: &'a R) -> io::Result<OpenFiles<'a, R>> {
         Ok(OpenFiles {
             rt,
-            _numbers: (open_null(rt)?, open_null(rt)?, open_null(rt)?),
+            _numbers: (take_number(rt)?, take_number(rt)?, take_number(rt)?),
             streams: [id_at(rt, "/proc/self/fd/1"), id_at(rt, "/proc/self/fd/2")],
             objects: Cell::new([None; 4]),
         })
     }
+}
 
+impl<'a, R: Files> OpenFiles<'a, R> {
     /// Opens the file of a device. It must be there already, no directory, and nothing that is printed goes into it.
     pub(crate) fn open_device(&self, path: &str, write: bool) -> io::Result<R::File> {
         let file = OpenOptions::new()
@@ -101,12 +108,20 @@ impl<'a, R: Files> OpenFiles<'a, R> {
     }
 }
 
-/// Opens the null device, which gets the least number that is free.
-fn open_null<R: Files>(rt: &R) -> io::Result<R::File> {
-    OpenOptions::new()
+/// Opens the null device, which gets the least number that is free. It is kept if that is a standard stream's.
+fn take_number<R: Files>(rt: &R) -> io::Result<Option<R::File>>
+where
+    R::File: AsRawFd,
+{
+    let null = OpenOptions::new()
         .read(true)
         .write(true)
-        .open(rt, "/dev/null")
+        .open(rt, "/dev/null")?;
+    Ok(if null.as_raw_fd() <= 2 {
+        Some(null)
+    } else {
+        None
+    })
 }
 
 /// What tells the file apart, if it is a block device or a regular file that the system numbers.
