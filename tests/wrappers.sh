@@ -595,8 +595,42 @@ for name in thin-pool.img ./thin-pool.img hard.img soft.img "$tmp/soft.img"; do
     try 1 "$lvm/thin_repair" -i thin-pool.img -o "$name"
     notes "thin_repair: thin-pool.img and $name are one file: nothing is opened" \
         'thin_repair: nothing is repaired; see pdata_tools-lvm(8)'
+    # and so does the program
+    try 5 pdata_tools thin_repair -i thin-pool.img -o "$name"
+    notes 'pdata_tools: device fault'
+    try 6 pdata_tools thin_dump -o "$name" thin-pool.img
+    out
+    notes 'pdata_tools: source or sink fault'
+    try 5 pdata_tools thin_restore -i "$name" -o thin-pool.img
+    try 5 pdata_tools thin_shrink -i thin-pool.img -o "$name" --data fresh.img --nr-blocks 2
+    try 5 pdata_tools thin_shrink -i thin-pool.img -o fresh.img --data "$name" --nr-blocks 2
+    try 5 pdata_tools thin_shrink -i fresh.img -o thin-pool.img --data "$name" --nr-blocks 2
+    try 5 pdata_tools cache_writeback --metadata-device thin-pool.img --fast-device "$name" --origin-device fresh.img
+    try 5 pdata_tools cache_writeback --metadata-device thin-pool.img --fast-device fresh.img --origin-device "$name"
+    try 5 pdata_tools cache_writeback --metadata-device fresh.img --fast-device thin-pool.img --origin-device "$name"
+    same thin-pool.img before.img
 done
-same thin-pool.img before.img
+# by the number of an open file, which is the image's own where it was free
+try 2 sh -c 'thin_dump -o /dev/fd/7 thin-pool.img 7<thin-pool.img'
+for number in 3 4 5 7; do
+    try 6 sh -c "pdata_tools thin_dump -o /dev/fd/$number thin-pool.img $number<thin-pool.img"
+    try 6 sh -c "pdata_tools thin_dump -o /dev/fd/$number thin-pool.img $number<&-"
+    try 6 thin_dump -o /dev/fd/$number thin-pool.img
+    same thin-pool.img before.img
+done
+# what is printed goes to the device
+for stream in '>>' '2>>'; do
+    # shellcheck disable=SC2016 # the inner shell's
+    try 5 sh -c "pdata_tools thin_check --clear-needs-check-flag thin-pool.img ${stream}thin-pool.img"
+    try 5 sh -c "thin_check --clear-needs-check-flag thin-pool.img ${stream}thin-pool.img"
+    out
+    case $stream in
+    '>>') notes 'thin_check: what is printed goes to thin-pool.img: nothing is opened' ;;
+    *) notes ;;
+    esac
+    try 1 sh -c "'$lvm/thin_check' --clear-needs-check-flag thin-pool.img ${stream}thin-pool.img"
+    same thin-pool.img before.img
+done
 rm hard.img soft.img
 if mknod one b 250 250 2>/dev/null && mknod other b 250 250 && mknod third b 250 251; then
     try 2 thin_repair -i one -o other
@@ -1652,6 +1686,26 @@ else
     skip 'what may not be read, as root may read all'
 fi
 
+# A limit of file sizes, and a program that a signal ends
+
+zeros new.img 1024
+cp new.img before.img
+# shellcheck disable=SC3045 # a shell without such limits is skipped
+if (ulimit -f 1024) 2>/dev/null; then
+    try 5 sh -c 'ulimit -f 8 && thin_restore -i thin-pool.txt -o new.img'
+    try 6 sh -c 'ulimit -f 1 && thin_dump -o short.txt thin-pool.img'
+else
+    skip 'a limit of file sizes, as the shell has none'
+fi
+mkdir killed
+# shellcheck disable=SC2016 # the inner shell's
+printf '#!/bin/sh\nkill -s KILL $$\n' >killed/program
+chmod +x killed/program
+sed "s|^program=.*|program=$tmp/killed/program|" "$prefix/sbin/thin_restore" >killed/thin_restore
+cp before.img new.img
+try 137 sh killed/thin_restore -i thin-pool.txt -o new.img
+notes_have 'thin_restore: stopped: block 0 of new.img is zeros, which a kernel takes for a new device.'
+
 # The commands for LVM, which end with 0 or 1 alone
 
 page='see pdata_tools-lvm(8)'
@@ -1795,6 +1849,139 @@ cp set-cache.img flag.img
 try 0 env -i PATH="$tmp/few" "$lvm/cache_check" -q --clear-needs-check-flag flag.img
 same flag.img cache.img
 
+# Closed standard streams: what is opened gets no number of theirs, so nothing that is printed goes into it. Each way to close them leaves
+# what the same call leaves over the null device, and ends with the same status.
+
+mkdir start
+cp set.img set-cache.img era.img start
+zeros start/new.img 64
+cp start/new.img start/wide.img
+cp pool.txt dirty.txt pair.txt start
+sed '2s/^[^ ]* //' pool.txt >start/refused.txt
+cp dirty.img fast.img origin.img start
+cp whole.img start/data.img
+: >start/no.img
+(
+    cd start || exit 1
+    zeros pool.img 16
+    pdata_tools thin_restore -i pool.txt -o pool.img
+    cp pool.img harmed.img
+    poke harmed.img 200 '\377\377'
+    pdata_tools era_dump -o era.txt era.img
+)
+poke start/origin.img 0 '\252'
+# the image to check afterwards, the tool for that, and the call
+cat >calls.txt <<END
+set.img thin_check thin_check --clear-needs-check-flag set.img
+set-cache.img cache_check cache_check --clear-needs-check-flag set-cache.img
+pool.img thin_check thin_check --clear-needs-check-flag pool.img
+pool.img thin_check thin_check --ignore-non-fatal-errors pool.img
+dirty.img cache_check cache_check dirty.img
+era.img era_check era_check era.img
+- - thin_check harmed.img
+- - thin_check --clear-needs-check-flag harmed.img
+- - thin_check missing.img
+- - thin_check
+pool.img thin_check thin_dump pool.img
+pool.img thin_check thin_dump --shared -o text.txt pool.img
+- - thin_dump harmed.img
+dirty.img cache_check cache_dump dirty.img
+dirty.img cache_check cache_dump -o text.txt dirty.img
+era.img era_check era_dump era.img
+pool.img thin_check thin_ls pool.img
+pool.img thin_check thin_rmap --region 0..4 -o text.txt pool.img
+era.img era_check era_invalidate --written-since 5 era.img
+- - thin_generate --number 1
+- - thin_generate --number 1 -o text.txt
+new.img thin_check thin_restore -i pool.txt -o new.img
+new.img thin_check thin_restore -i pair.txt -o new.img
+- - thin_restore -i /dev/stdin -o new.img
+- - thin_restore -i refused.txt -o new.img
+- - thin_restore -i pool.txt -o no.img
+new.img cache_check cache_restore -i dirty.txt -o new.img
+wide.img era_check era_restore -i era.txt -o wide.img
+new.img thin_check thin_repair -i pool.img -o new.img
+new.img thin_check thin_repair --shared -i pool.img -o new.img
+pool.img thin_check thin_repair --dry-run -i pool.img
+- - thin_repair -i harmed.img -o new.img
+new.img thin_check thin_repair -i harmed.img -o new.img --transaction-id 0 --data-block-size 8 --nr-data-blocks 4
+- - thin_repair --dry-run -i harmed.img --transaction-id 0 --data-block-size 8 --nr-data-blocks 4
+new.img cache_check cache_repair -i dirty.img -o new.img
+new.img thin_check thin_rehearse --number 1 -o new.img
+dirty.img cache_check cache_writeback --metadata-device dirty.img --fast-device fast.img --origin-device origin.img
+- - cache_writeback --metadata-device dirty.img --fast-device no.img --origin-device origin.img
+new.img thin_check thin_shrink -i pool.img -o new.img --data data.img --nr-blocks 2
+- - thin_shrink -i pool.img -o new.img --data data.img --nr-blocks 1
+set.img thin_check $lvm/thin_check --clear-needs-check-flag set.img
+set-cache.img cache_check $lvm/cache_check --clear-needs-check-flag set-cache.img
+- - $lvm/thin_check harmed.img
+new.img thin_check $lvm/thin_repair -i pool.img -o new.img
+new.img cache_check $lvm/cache_repair -i dirty.img -o new.img
+- - $lvm/thin_dump pool.img
+END
+# Runs a call in a folder with fresh files, its output beside the folder, and some of its streams closed
+with_closed() {
+    rm -rf there
+    cp -R start there
+    : >out
+    : >notes
+    (cd there && eval "$1 </dev/null >../out 2>../notes $2")
+    got=$?
+}
+# A call with open streams, and then with each way to close them
+closing() {
+    with_closed "$1" ''
+    rm -rf kept
+    mv there kept
+    mv out kept-out
+    mv notes kept-notes
+    wanted=$got
+    for ways in '<&-' '>&-' '2>&-' '<&- >&-' '<&- 2>&-' '>&- 2>&-' '<&- >&- 2>&-'; do
+        what="$1 $ways"
+        tries=$((tries + 1))
+        with_closed "$1" "$ways"
+        [ "$got" -eq "$wanted" ] || bad "status $got and not $wanted"
+        diff -r kept there >differs || bad "$(cat differs)"
+        case " $ways" in
+        *' >&-'*) [ ! -s out ] || bad 'there is an output' ;;
+        *) same out kept-out ;;
+        esac
+        case $ways in
+        *'2>&-'*) [ ! -s notes ] || bad 'there are notes' ;;
+        *) same notes kept-notes ;;
+        esac
+    done
+}
+while read -r image check call; do
+    case $call in
+    /*) ;;
+    *) closing "pdata_tools $call" ;;
+    esac
+    closing "$call"
+    [ "$image" = - ] || try 0 "$check" "there/$image"
+done <calls.txt
+for shell in bash 'busybox sh'; do
+    if command -v "${shell% *}" >/dev/null; then
+        closing "$shell $prefix/sbin/thin_check --clear-needs-check-flag set.img"
+        closing "$shell $prefix/sbin/thin_check harmed.img"
+        closing "$shell $lvm/thin_check --clear-needs-check-flag harmed.img"
+    fi
+done
+rm -rf there kept
+# without the null device nothing is done
+mkdir -p dev/null
+if unshare -m mount --bind dev /dev 2>/dev/null; then
+    for call in pdata_tools\ thin_restore thin_restore; do
+        cp start/new.img new.img
+        # shellcheck disable=SC2016 # the inner shell's
+        try 6 unshare -m sh -c 'mount --bind dev /dev && exec "$@"' sh $call -i pool.txt -o new.img
+        out
+        same new.img start/new.img
+    done
+else
+    skip 'no null device, as nothing can be mounted'
+fi
+
 # A device in use: a block device that nothing is behind, and what the kernel would say of it
 if mknod held b 250 250 2>/dev/null && [ -b held ]; then
     sys=$tmp/sys/250:250
@@ -1815,6 +2002,16 @@ if mknod held b 250 250 2>/dev/null && [ -b held ]; then
     # it isn't in use: the program can't open it
     try 5 sbin-looking/thin_restore -i thin-pool.txt -o held
     notes 'pdata_tools: device fault'
+    try 6 sbin-looking/thin_dump -o held thin-pool.img
+    out
+    notes 'thin_dump: held is a block device: a text is put into a file'
+    # a loop device, and the file that it is made over
+    mkdir "$sys/loop"
+    echo "$tmp/fresh.img" >"$sys/loop/backing_file"
+    try 2 sbin-looking/thin_repair -i fresh.img -o held
+    notes 'thin_repair: fresh.img and held are one file: nothing is opened'
+    try 1 looking/thin_repair -i held -o fresh.img
+    rm -r "$sys/loop"
     in_use='in use by dm-7 (vg-pool-tpool)'
     for way in holder mount; do
         if [ $way = holder ]; then

@@ -6,6 +6,7 @@
 
 mod block_file;
 mod file_device;
+mod open_files;
 mod outcome;
 mod reading;
 mod record;
@@ -15,5 +16,6 @@ mod std_sink;
 mod std_source;
 
 pub use file_device::FileDevice;
+pub use open_files::OpenFiles;
 pub use std_sink::StdSink;
 pub use std_source::StdSource;

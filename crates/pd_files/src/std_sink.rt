@@ -4,11 +4,12 @@
 ghost use Rattle.std.specs.Prelude.{refl, ◌≡◌};
 ghost use Rattle.pd_files.specs.StdSink.{std_sink_state, unattached_stream};
 
+use crate::open_files::OpenFiles;
 use crate::outcome::counted_outcome;
 use pd_image::{Access, Failed, Sink};
 use std::io::{ErrorKind, Write};
 use std::rt::Files;
-use std::{fs, io, str};
+use std::{io, str};
 
 /// One of the two standard streams that are written.
 #[derive(Clone, Copy)]
@@ -23,7 +24,7 @@ enum Stream {
 /// It keeps no bytes of its own, so its caller puts them in large pieces.
 #[derive(Drop)]
 pub struct StdSink<'a, R: Files> {
-    rt: &'a R,
+    files: &'a OpenFiles<'a, R>,
     stream: Stream,
     /// The file, where `attach` had a path.
     file: Option<R::File>,
@@ -34,25 +35,25 @@ pub struct StdSink<'a, R: Files> {
 
 impl<'a, R: Files + Print + Eprint> StdSink<'a, R> {
     /// A sink that isn't attached yet, which without a path is the standard output.
-    pub fn out(rt: &'a R) -> StdSink<'a, R>
+    pub fn out(files: &'a OpenFiles<'a, R>) -> StdSink<'a, R>
         ensures { std_sink_state result ≡ unattached_stream }
     {
-        StdSink::of(rt, Stream::Out)
+        StdSink::of(files, Stream::Out)
     }
 
     /// A sink that isn't attached yet, which without a path is the standard error. There bytes that
     /// aren't UTF-8 are a fault.
-    pub fn err(rt: &'a R) -> StdSink<'a, R>
+    pub fn err(files: &'a OpenFiles<'a, R>) -> StdSink<'a, R>
         ensures { std_sink_state result ≡ unattached_stream }
     {
-        StdSink::of(rt, Stream::Err)
+        StdSink::of(files, Stream::Err)
     }
 
-    fn of(rt: &'a R, stream: Stream) -> StdSink<'a, R>
+    fn of(files: &'a OpenFiles<'a, R>, stream: Stream) -> StdSink<'a, R>
         ensures { std_sink_state result ≡ unattached_stream }
     {
         StdSink {
-            rt,
+            files,
             stream,
             file: None,
             access: Access::Unattached,
@@ -69,7 +70,7 @@ impl<'a, R: Files + Print + Eprint> Sink for StdSink<'a, R> {
     fn attach(&mut self, path: Option<&str>) -> Result<(), Failed> {
         self.access = Access::Refused;
         if let Some(path) = path {
-            let file = counted_outcome(fs::create(self.rt, path), &mut self.faults)?;
+            let file = counted_outcome(self.files.create_text(path), &mut self.faults)?;
             self.file = Some(file);
         }
         self.access = Access::Attached;
@@ -79,8 +80,8 @@ impl<'a, R: Files + Print + Eprint> Sink for StdSink<'a, R> {
     fn put(&mut self, bytes: &[u8]) -> Result<(), Failed> {
         let done = match (&mut self.file, self.stream) {
             (Some(file), _) => file.write_all(bytes),
-            (None, Stream::Out) => put_out(self.rt, bytes),
-            (None, Stream::Err) => put_err(self.rt, bytes),
+            (None, Stream::Out) => put_out(self.files.rt, bytes),
+            (None, Stream::Err) => put_err(self.files.rt, bytes),
         };
         counted_outcome(done, &mut self.faults)
     }

@@ -3,10 +3,10 @@
 ghost use Rattle.std.specs.Prelude.{refl, ◌≡◌};
 ghost use Rattle.pd_files.specs.StdSource.{std_source_state, unattached_text};
 
+use crate::open_files::OpenFiles;
 use crate::outcome::counted_outcome;
 use crate::reading::read_some;
 use pd_image::{Access, Failed, Source};
-use std::fs;
 use std::io::ErrorKind;
 use std::rt::Files;
 
@@ -15,7 +15,7 @@ use std::rt::Files;
 /// It keeps no bytes of its own, so its caller takes them in large pieces.
 #[derive(Drop)]
 pub struct StdSource<'a, R: Files> {
-    rt: &'a R,
+    files: &'a OpenFiles<'a, R>,
     file: Option<R::File>,
     access: Access,
     /// Up to the end of its type.
@@ -23,12 +23,12 @@ pub struct StdSource<'a, R: Files> {
 }
 
 impl<'a, R: Files> StdSource<'a, R> {
-    /// A source over the files of this runtime, which isn't attached yet.
-    pub fn new(rt: &'a R) -> StdSource<'a, R>
+    /// A source over one of these files, which isn't attached yet.
+    pub fn new(files: &'a OpenFiles<'a, R>) -> StdSource<'a, R>
         ensures { std_source_state result ≡ unattached_text }
     {
         StdSource {
-            rt,
+            files,
             file: None,
             access: Access::Unattached,
             faults: 0,
@@ -43,7 +43,7 @@ impl<'a, R: Files> Source for StdSource<'a, R> {
 
     fn attach(&mut self, path: &str) -> Result<(), Failed> {
         self.access = Access::Refused;
-        let file = counted_outcome(fs::open(self.rt, path), &mut self.faults)?;
+        let file = counted_outcome(self.files.open_text(path), &mut self.faults)?;
         self.file = Some(file);
         self.access = Access::Attached;
         Ok(())

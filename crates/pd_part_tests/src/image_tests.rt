@@ -3,7 +3,7 @@ ghost use Rattle.pd_image.specs.Device.{IsAttached, IsWritable, OnlyReads};
 ghost use Rattle.pd_files.specs.FileDevice.{file_device_state};
 
 use crate::objects::{NEVER, device_of, leaves};
-use pd_files::{FileDevice, StdSink, StdSource};
+use pd_files::{FileDevice, OpenFiles, StdSink, StdSource};
 use pd_image::{Device, MemDevice, MemSink, MemSource, Pick, Sink, Source};
 use pd_kinds::{BLOCK_SIZE, Block};
 use std::alloc::{AllocError, Global};
@@ -139,7 +139,8 @@ fn memory_sink_fails_where_it_is_set_to(rt: HostRuntime) -> Result<(), Fail> {
 
 /// Writes block 1 of a file of two blocks, and answers block 0, or none where a call failed or there aren't two.
 fn change_file(rt: &HostRuntime, path: &str) -> Result<Option<Block>, Fail> {
-    let mut device = Box::new(rt.alloc(), FileDevice::new(rt))?;
+    let files = OpenFiles::new(rt)?;
+    let mut device = Box::new(rt.alloc(), FileDevice::new(&files))?;
     device.attach(path, true)?;
     if device.blocks() != 2 {
         return Ok(None);
@@ -163,24 +164,45 @@ fn file_device_reads_and_writes_whole_blocks(rt: HostRuntime) -> Result<(), Fail
 }
 
 /// Whether a device over the file can be attached.
-fn can_attach(rt: &HostRuntime, path: &str, write: bool) -> bool {
-    FileDevice::new(rt).attach(path, write).is_ok()
+fn can_attach(rt: &HostRuntime, path: &str, write: bool) -> Result<bool, Fail> {
+    let files = OpenFiles::new(rt)?;
+    Ok(FileDevice::new(&files).attach(path, write).is_ok())
 }
 
 #[test]
-fn file_device_needs_a_file_that_is_there(rt: HostRuntime) {
+fn file_device_needs_a_file_that_is_there(rt: HostRuntime) -> Result<(), Fail> {
     for path in ["missing.img", "."] {
-        assert!(rt; !can_attach(&rt, path, false));
-        assert!(rt; !can_attach(&rt, path, true));
+        assert!(rt; !can_attach(&rt, path, false)?);
+        assert!(rt; !can_attach(&rt, path, true)?);
     }
     assert!(rt; fs::read(&rt, "missing.img").is_err());
+    Ok(())
 }
 
 /// A running program can't be opened for writing, not even by root.
 #[test]
-fn file_device_needs_a_file_that_it_may_write(rt: HostRuntime) {
-    assert!(rt; can_attach(&rt, "/proc/self/exe", false));
-    assert!(rt; !can_attach(&rt, "/proc/self/exe", true));
+fn file_device_needs_a_file_that_it_may_write(rt: HostRuntime) -> Result<(), Fail> {
+    assert!(rt; can_attach(&rt, "/proc/self/exe", false)?);
+    assert!(rt; !can_attach(&rt, "/proc/self/exe", true)?);
+    Ok(())
+}
+
+/// A file is one object's alone, by whatever name, and a text that is refused cuts none.
+#[test]
+fn objects_take_no_file_of_another(rt: HostRuntime) -> Result<(), Fail> {
+    write_file(&rt, "shared.img", &[1; 4096])?;
+    fs::hard_link(&rt, "shared.img", "linked.img")?;
+    let files = OpenFiles::new(&rt)?;
+    let mut device = Box::new(rt.alloc(), FileDevice::new(&files))?;
+    device.attach("shared.img", false)?;
+    for path in ["shared.img", "./shared.img", "linked.img"] {
+        assert!(rt; FileDevice::new(&files).attach(path, true).is_err());
+        assert!(rt; StdSource::new(&files).attach(path).is_err());
+        assert!(rt; StdSink::out(&files).attach(Some(path)).is_err());
+    }
+    assert!(rt; fs::read(&rt, "shared.img")?.as_slice() == [1; 4096].as_slice());
+    remove_file(&rt, "linked.img")?;
+    remove_file(&rt, "shared.img")
 }
 
 /// Block 0 is full of ones, and block 1 fails.
@@ -198,7 +220,8 @@ fn expect_first_alone<D: Device>(rt: &impl Abort, device: &mut D)
 fn file_device_fails_past_the_end_of_a_file_cut_short(rt: HostRuntime) -> Result<(), Fail> {
     let image = [1; 2 * 4096];
     write_file(&rt, "cut_short.img", &image)?;
-    let mut device = Box::new(rt.alloc(), FileDevice::new(&rt))?;
+    let files = OpenFiles::new(&rt)?;
+    let mut device = Box::new(rt.alloc(), FileDevice::new(&files))?;
     device.attach("cut_short.img", false)?;
     assert!(rt; device.blocks() == 2);
     write_file(&rt, "cut_short.img", &image[..4097])?;
@@ -236,13 +259,14 @@ fn write_numbered(rt: &HostRuntime, path: &str, blocks: u8) -> Result<(), Fail> 
 
 /// A device over a new file of 35 such blocks.
 fn numbered_device<'a>(
-    rt: &'a HostRuntime,
+    rt: &HostRuntime,
+    files: &'a OpenFiles<'a, HostRuntime>,
     path: &str,
 ) -> Result<Box<FileDevice<'a, HostRuntime>>, Fail>
     ensures { IfOk result (λ device. IsWritable (file_device_state device.value)) }
 {
     write_numbered(rt, path, 35)?;
-    let mut device = Box::new(rt.alloc(), FileDevice::new(rt))?;
+    let mut device = Box::new(rt.alloc(), FileDevice::new(files))?;
     device.attach(path, true)?;
     Ok(device)
 }
@@ -292,7 +316,8 @@ const ANY_ORDER: &[Row] = &[
 
 #[test]
 fn file_device_reads_in_any_order(rt: HostRuntime) -> Result<(), Fail> {
-    let mut device = numbered_device(&rt, "any_order.img")?;
+    let files = OpenFiles::new(&rt)?;
+    let mut device = numbered_device(&rt, &files, "any_order.img")?;
     assert!(rt; device.blocks() == 35);
     expect_rows(&rt, &mut *device, ANY_ORDER);
     remove_file(&rt, "any_order.img")
@@ -313,7 +338,8 @@ fn expect_written<D: Device>(rt: &impl Abort, device: &mut D)
 
 #[test]
 fn file_device_reads_what_was_written_in_a_run(rt: HostRuntime) -> Result<(), Fail> {
-    let mut device = numbered_device(&rt, "written_run.img")?;
+    let files = OpenFiles::new(&rt)?;
+    let mut device = numbered_device(&rt, &files, "written_run.img")?;
     assert!(rt; device.blocks() == 35);
     expect_written(&rt, &mut *device);
     remove_file(&rt, "written_run.img")
@@ -331,7 +357,8 @@ const CUT_SHORT: &[Row] = &[
 fn file_device_fails_block_by_block_past_the_end_of_a_run_cut_short(
     rt: HostRuntime,
 ) -> Result<(), Fail> {
-    let mut device = numbered_device(&rt, "cut_run.img")?;
+    let files = OpenFiles::new(&rt)?;
+    let mut device = numbered_device(&rt, &files, "cut_run.img")?;
     assert!(rt; has_numbers(&mut *device, &[0, 1]));
     write_numbered(&rt, "cut_run.img", 18)?;
     expect_rows(&rt, &mut *device, CUT_SHORT);
@@ -341,7 +368,8 @@ fn file_device_fails_block_by_block_past_the_end_of_a_run_cut_short(
 #[test]
 fn std_source_gives_a_file(rt: HostRuntime) -> Result<(), Fail> {
     write_file(&rt, "source.txt", b"abc")?;
-    let mut source = Box::new(rt.alloc(), StdSource::new(&rt))?;
+    let files = OpenFiles::new(&rt)?;
+    let mut source = Box::new(rt.alloc(), StdSource::new(&files))?;
     source.attach("source.txt")?;
     let mut room = [0; 2];
     assert!(rt; source.take(&mut room) == Ok(2));
@@ -352,14 +380,17 @@ fn std_source_gives_a_file(rt: HostRuntime) -> Result<(), Fail> {
 }
 
 #[test]
-fn std_source_needs_a_file_that_is_there(rt: HostRuntime) {
-    assert!(rt; StdSource::new(&rt).attach("missing").is_err());
+fn std_source_needs_a_file_that_is_there(rt: HostRuntime) -> Result<(), Fail> {
+    let files = OpenFiles::new(&rt)?;
+    assert!(rt; StdSource::new(&files).attach("missing").is_err());
+    Ok(())
 }
 
 #[test]
 fn std_sink_makes_and_cuts_its_file(rt: HostRuntime) -> Result<(), Fail> {
     write_file(&rt, "sink.txt", b"what was there")?;
-    let mut sink = Box::new(rt.alloc(), StdSink::out(&rt))?;
+    let files = OpenFiles::new(&rt)?;
+    let mut sink = Box::new(rt.alloc(), StdSink::out(&files))?;
     expect_puts(
         &rt,
         &mut *sink,
@@ -367,13 +398,18 @@ fn std_sink_makes_and_cuts_its_file(rt: HostRuntime) -> Result<(), Fail> {
         &[(b"ab", true), (b"\xff", true)],
     )?;
     assert!(rt; fs::read(&rt, "sink.txt")?.as_slice() == b"ab\xff".as_slice());
-    assert!(rt; StdSink::out(&rt).attach(Some("missing/sink.txt")).is_err());
+    assert!(rt;
+        StdSink::out(&files)
+            .attach(Some("missing/sink.txt"))
+            .is_err()
+    );
     remove_file(&rt, "sink.txt")
 }
 
 #[test]
 fn std_sink_writes_any_bytes_to_the_standard_output(rt: HostRuntime) -> Result<(), Fail> {
-    expect_puts(&rt, &mut StdSink::out(&rt), None, &[(b"\xff\n", true)])
+    let files = OpenFiles::new(&rt)?;
+    expect_puts(&rt, &mut StdSink::out(&files), None, &[(b"\xff\n", true)])
 }
 
 #[test]
@@ -382,5 +418,6 @@ fn std_sink_writes_text_to_the_standard_error(rt: HostRuntime) -> Result<(), Fai
         (b"a note\n".as_slice(), true),
         (b"\xff\n".as_slice(), false),
     ];
-    expect_puts(&rt, &mut StdSink::err(&rt), None, puts)
+    let files = OpenFiles::new(&rt)?;
+    expect_puts(&rt, &mut StdSink::err(&files), None, puts)
 }

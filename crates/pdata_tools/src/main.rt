@@ -10,19 +10,29 @@ ghost use Rattle.pd_answers.specs.Promises.{terms_of};
 mod stack;
 
 use crate::stack::take_stack;
-use pd_files::{FileDevice, StdSink, StdSource};
+use pd_files::{FileDevice, OpenFiles, StdSink, StdSource};
 use pd_tools::run_tool;
 use std::io::ErrorKind;
 use std::process::ExitCode;
 use std::{env, io};
 
 /// Runs the tool that the words ask for. Its status is the exit code.
+///
+/// The numbers of the standard streams are taken first. If they can't be, nothing tells where the output goes, so nothing is done.
 fn main(rt: HostRuntime) -> ExitCode {
-    let status = match begin(&rt) {
-        Ok(words) => run(&rt, words.as_slice()),
-        Err(error) => unready_status(error.kind()),
+    let status = match OpenFiles::new(&rt) {
+        Ok(files) => run_words(&rt, &files),
+        Err(_) => 6,
     };
     ExitCode::from(status)
+}
+
+/// Takes the words and the stack, and runs the tool.
+fn run_words(rt: &HostRuntime, files: &OpenFiles<HostRuntime>) -> u8 {
+    match begin(rt) {
+        Ok(words) => run(rt, files, words.as_slice()),
+        Err(error) => unready_status(error.kind()),
+    }
 }
 
 /// Takes the words and the stack.
@@ -38,19 +48,21 @@ fn tool_words(rt: &HostRuntime) -> io::Result<Vec<String>> {
     Ok(words)
 }
 
-/// Runs the tool over real files and the standard streams.
-fn run(rt: &HostRuntime, words: &[String]) -> u8
+/// Runs the tool over real files and the standard streams. What it takes of the stack it takes when it is called, so it is
+/// no part of its caller.
+#[inline(never)]
+fn run(rt: &HostRuntime, files: &OpenFiles<HostRuntime>, words: &[String]) -> u8
     ensures { IsTrue (is_possible (terms_of (asked (map string_bytes words.now))) result) }
 {
     run_tool(
         rt.alloc(),
         words,
-        &mut StdSource::new(rt),
-        &mut StdSink::out(rt),
-        &mut StdSink::err(rt),
-        &mut FileDevice::new(rt),
-        &mut FileDevice::new(rt),
-        &mut FileDevice::new(rt),
+        &mut StdSource::new(files),
+        &mut StdSink::out(files),
+        &mut StdSink::err(files),
+        &mut FileDevice::new(files),
+        &mut FileDevice::new(files),
+        &mut FileDevice::new(files),
     )
 }
 
