@@ -115,12 +115,12 @@ module _ (version : Option ℕ) (asked : IsVersionAsked version)
     pub cache_holds : IsWorkDone before after status → HoldsSavedCache version before after
     cache_holds done =
         holds_made (faults Cache stages.Super) making_in (λ (s : SavedIn). keeps_line s.cache) (saved_in version) (IsSavedCache version) caches_made_so before after answered.finding answered.found
-        (answered.leaves.made done)
+        (answered.leaves.made.made done)
 
     pub cache_leaves : LeavesSavedCache version before after
     cache_leaves =
         leaves_made (faults Cache stages.Super) making_in (λ (s : SavedIn). keeps_line s.cache) (saved_in version) (IsSavedCache version) caches_made_so before after answered.finding answered.found
-        answered.leaves.output.output.crash
+        answered.leaves.made.output.output.crash
 
 -- at status 0 the line of what is kept was put
 pub puts_kept : (version : Option ℕ) (from to : List ℕ) (before after : Objects) → IsCacheRepairAnswered version from to before after 0 → PutsKept before after

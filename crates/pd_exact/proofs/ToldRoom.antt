@@ -13,7 +13,7 @@ use Rattle.pd_laid.specs.Shape.{ThinShape}
 use Rattle.pd_shapes.specs.SavedShape.{saved_shape_from}
 use Rattle.pd_shapes.specs.SharedNeed.{shape_data, shape_need}
 use Rattle.pd_spells.specs.ThinNeed.{thin_need}
-use Rattle.pd_answers.specs.KeptLines.{least_room, told_from}
+use Rattle.pd_answers.specs.KeptLines.{IsLeastRoom, IsTold, least_room, told_from}
 use Rattle.pd_answers.specs.Makings.{is_too_small, pool_making, shape_making}
 use Rattle.pd_answers.specs.NamedRepairs.{named_pool, named_shape, saved_from_named}
 use Rattle.pd_answers.specs.NamedRoots.{GivenSuper, NamedRoots, named_fields, pool_time, timeless_fields}
@@ -59,6 +59,12 @@ module _ (need : ℕ → ℕ) (form : (n : ℕ) → need 0 + bitmaps_for n ≡ n
       let is = form some in
       first_found has_room some 0 (2 * need 0 + 2) (omega arith) (omega arith) (le-leb (need some) some (omega arith))
 
+  least : IsLeastRoom need (least_room need)
+  least = record {
+    enough = leb-true (need (least_room need)) (least_room need) first_room.passes;
+    least = λ fewer less. leb-false (need fewer) fewer (first_room.none fewer (omega arith) less);
+  }
+
   too_small : (room : ℕ) → nat_lt room (need room) ≡ nat_lt room (least_room need)
   too_small room = by (cases_lt room (least_room need))
     where
@@ -71,6 +77,16 @@ module _ (need : ℕ → ℕ) (form : (n : ℕ) → need 0 + bitmaps_for n ≡ n
           let here = form room in
           let there = form least in
           le-ltb room (need room) (omega arith) ∙ sym (le-ltb room least more)
+
+-- what is told is right
+pub told_right : (fields : ThinFields) (image : List (List ℕ)) → IsTold fields image (told_from fields image)
+told_right fields image = record {
+  lines = refl;
+  devices = refl;
+  mappings = refl;
+  need = least (thin_need (salvage_from fields image)) (pool_bitmaps (salvage_from fields image));
+  shared_need = least (shape_need (saved_shape_from fields image)) (shape_bitmaps (saved_shape_from fields image));
+}
 
 -- of what is saved by a superblock with these fields, without its shared leaves or with them
 pub pool_told : (fields : ThinFields) (image : List (List ℕ)) (room : ℕ) → is_too_small (pool_making (salvage_from fields image)) room ≡ nat_lt room (told_from fields image).need

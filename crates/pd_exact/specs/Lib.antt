@@ -1,6 +1,7 @@
 pub mod Exact
 pub mod Saved
 pub mod Words
+pub mod WordOrder
 pub mod Writeback
 pub mod Search
 pub mod Sharing

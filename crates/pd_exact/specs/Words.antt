@@ -8,9 +8,11 @@ use Rattle.pd_kinds.specs.declared.kind.Passing.{Passing}
 use Rattle.pd_kinds.specs.declared.kind.Passing.TheVariants.{Nothing, Leaks}
 use Rattle.pd_kinds.specs.declared.kind.Stage.TheVariants.{Super, Whole}
 use Rattle.pd_kinds.specs.Crash.{HoldsSynced}
+use Rattle.pd_kinds.specs.Graph.{block_at}
 use Rattle.pd_kinds.specs.Image.{IsImage}
 use Rattle.pd_kinds.specs.Objects.{Appends}
 use Rattle.pd_kinds.specs.Stages.{faults}
+use Rattle.pd_kinds.specs.ThinSuper.{thin_fields}
 use Rattle.pd_spells.specs.ThinText.{SpellsPool}
 use Rattle.pd_shapes.specs.ImageShape.{image_shape}
 use Rattle.pd_shapes.specs.PoolText.{SpellsPoolShape}
@@ -18,7 +20,7 @@ use Rattle.pd_shapes.specs.SharedText.{text_of_shape}
 use Rattle.pd_laid_thin.specs.CleanPool.{IsCleanPool}
 use Rattle.pd_answers.specs.Answer.{Objects}
 use Rattle.pd_answers.specs.Generated.{generated_text}
-use Rattle.pd_answers.specs.KeptLines.{kept_text}
+use Rattle.pd_answers.specs.KeptLines.{IsTold, Told, told_text}
 use Rattle.pd_answers.specs.Promises.{terms_of}
 use Rattle.pd_answers.specs.QueryLines.{image_text}
 use Rattle.pd_answers.specs.Terms.{IsAnswered}
@@ -86,10 +88,13 @@ pub record PutsOfSound (kind : Kind) (bytes : List ℕ) (image : List (List ℕ)
 abbrev pub PutsOfInput : Kind → (List (List ℕ) → List ℕ) → Objects → Objects → Type 0
 PutsOfInput kind bytes_of before after = IfSome before.input.held (λ image. PutsOfSound kind (bytes_of image) image before after)
 
--- the superblock of the image that was read has no faults, and it was put what a repair would keep of it
+-- the superblock of the image that was read has no faults, and it was put what a repair would keep of it, and the least numbers of
+-- blocks on which that has room
 pub record TellsKept (image : List (List ℕ)) (before after : Objects) : Type 0 where
   pub sound : faults Thin Super image ≡ []
-  pub put : Appends (kept_text image) before.out.written after.out.written
+  pub told : Told
+  pub right : IsTold (thin_fields (block_at image 0)) image told
+  pub put : Appends (told_text told) before.out.written after.out.written
 
 abbrev pub TellsKeptOfInput : Objects → Objects → Type 0
 TellsKeptOfInput before after = IfSome before.input.held (λ image. TellsKept image before after)

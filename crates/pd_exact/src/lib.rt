@@ -17,6 +17,7 @@ mod shared;
 mod shared_repairs;
 mod shrinks;
 mod targets;
+mod word_order;
 pub mod words;
 mod writebacks;
 
@@ -67,4 +68,5 @@ pub use targets::{
     crashed_restore_leaves_no_other_target, restored_target_dump_means_the_same,
     restored_target_is_clean, sound_targets_are_lawful,
 };
+pub use word_order::reordered_words_ask_the_same;
 pub use writebacks::{stopped_writeback_keeps_the_view, written_back_cache_is_clean};

@@ -89,7 +89,7 @@ at_rest (Some (writeback metadata fast origin)) before notes fresh verdicts =
 at_rest (Some (shrink shared input output pool blocks)) before notes fresh verdicts =
     task_at_rest (shrinks.shrink shared input output pool blocks) before notes (shrink_rests shared input output pool blocks before (record before { notes = notes }) fresh (none_written before notes fresh))
 at_rest (Some (repair_cache version from to)) before notes fresh verdicts =
-    task_at_rest (caches.repair_cache version from to) before notes (cache_repair_rests version from to before (record before { notes = notes }) fresh (none_written before notes fresh))
+    task_at_rest (caches.repair_cache version from to) before notes (cache_repair_rests version from to before (record before { notes = notes }) fresh (none_written before notes fresh) refl)
 at_rest (Some (search shared from to transaction block_size blocks)) before notes fresh verdicts =
     task_at_rest (searches.search shared from to transaction block_size blocks) before notes
     (search_rests shared (record { transaction = transaction; block_size = block_size; blocks = blocks }) from to before (record before { notes = notes }) fresh (none_written before notes fresh))

@@ -1,7 +1,7 @@
 -- What the work of a cache's repair comes to, over plain variables.
-use Rattle.std.proofs.Common.{◌≡◌, ◌≢◌, inl, inr, ℕ, ◌≤◌, ◌<◌, true, false, nat_eq, IsTrue, List, [], length, Option, Some, None, IfSome, Result, Ok, Err, refl, sym, ap, ◌∙◌, subst, arith}
+use Rattle.std.proofs.Common.{◌≡◌, ◌≢◌, ◌⊎◌, inl, inr, ℕ, ◌+◌, ◌≤◌, ◌<◌, true, false, nat_eq, IsTrue, List, [], length, Option, Some, None, IfSome, Result, Ok, Err, refl, sym, ap, ◌∙◌, subst, arith}
 use Rattle.std.specs.Prelude.{IfOk}
-use Rattle.std.proofs.lemmas.Bool.{cases_Bool, eqb-true}
+use Rattle.std.proofs.lemmas.Bool.{cases_Bool, cases_lt, eqb-true, le-ltb}
 use Rattle.pd_kinds.specs.declared.kind.Kind.TheVariants.{Cache}
 use Rattle.pd_kinds.specs.declared.kind.Stage.TheVariants.{Super}
 use Rattle.pd_kinds.specs.declared.rule.Rule.{Rule}
@@ -61,27 +61,45 @@ line_of saved = keeps_line saved.cache
 
 -- an output that was left alone, under each status but 0
 left_alone : (found : Salvaged SavedIn) (before after : Objects) (status : ℕ) → AreFresh before → after.out ≡ before.out → IsUntouched before.output after.output → status ≢ 0
-    → LeavesKept found before after status
-left_alone found before after status fresh unput same some =
-    first_alone (Lays (kept_answer found) (making_in found.saved) found.room) (kept_answer found).status before after status fresh.output.2 unput same some
+    → ((kept_answer found).status ≡ 4 → after.input.reads ≤ before.input.reads + 1) → LeavesKept found before after status
+left_alone found before after status fresh unput same some unread = record {
+  made = first_alone (Lays (kept_answer found) (making_in found.saved) found.room) (kept_answer found).status before after status fresh.output.2 unput same some;
+  unread = unread;
+}
+
+other_than_four : (let zero : ℕ = 0 in zero ≡ 4) ⊎ (let one : ℕ = 1 in one ≡ 4) → ⊥
+other_than_four (inl e) = omega arith
+other_than_four (inr e) = omega arith
+
+-- status 4 is answered only where there is no room
+small_if : (report : Reported) (saved : SavedIn) (room : ℕ) → (kept_answer (found_of report saved room)).status ≡ 4 → room < (making_in saved).need room
+small_if report saved room four = elim (cases_lt room ((making_in saved).need room)) [
+  | inl small ↦ small
+  | inr fits ↦ absurd (never (cases_Bool (nat_eq report.total 0)) fits)
+]
+  where
+    never : (nat_eq report.total 0 ≡ true) ⊎ (nat_eq report.total 0 ≡ false) → (making_in saved).need room ≤ room → ⊥
+    never (inl none) fits = other_than_four (inl (rw (none, le-ltb room ((making_in saved).need room) fits) at four))
+    never (inr some) fits = other_than_four (inr (rw some at four))
 
 -- what is left where a line is lost
 pub kept_lost : (found : Salvaged SavedIn) (before after : Objects) (status : ℕ) → status ≢ 0 → LeavesKept found before after status → LeavesKept found before after 6
-kept_lost found before after status some left = first_lost _ _ before after status some left
+kept_lost found before after status some left = record { made = first_lost _ _ before after status some left.made; unread = left.unread }
 
 -- before anything was written
-pub cache_repair_rests : (version : Option ℕ) (from to : List ℕ) (before after : Objects) → AreFresh before → AreAlone before after → IsAtRest (repair_cache version from to) before after
-cache_repair_rests version from to before after fresh alone =
+pub cache_repair_rests : (version : Option ℕ) (from to : List ℕ) (before after : Objects) → AreFresh before → AreAlone before after → after.input.reads ≡ before.input.reads
+    → IsAtRest (repair_cache version from to) before after
+cache_repair_rests version from to before after fresh alone unread =
     let rest = saved_at_rest (faults Cache Super) (saved_in version) before after alone in
     record {
       finding = rest.0;
       found = rest.1;
-      leaves = λ status some. left_alone rest.0 before after status fresh alone.out alone.output some;
+      leaves = λ status some. left_alone rest.0 before after status fresh alone.out alone.output some (λ _. rw unread (omega arith));
     }
 
 module _ (version : Option ℕ) (from to : List ℕ) (before after : Objects) (opened : Devices) (fresh : AreFresh before) (unput : after.out ≡ before.out)
     (both : AreOpened (repair_cache version from to).uses (devices_of before) opened)
-    (measured : IfSome opened.output.held (λ image. length image ≡ opened.output.blocks)) (place : KeepsPlace opened.output after.output) (few : ℕ)
+    (measured : IfSome opened.output.held (λ image. length image ≡ opened.output.blocks)) (place : KeepsPlace opened.output after.output) (few : ℕ) (few_is : few ≡ before.input.reads + 1)
     (result : Result KeptCache RepairFault) (done : IsCacheRepaired version few result opened.input after.input opened.output after.output) where
   abbrev terms : Terms
   terms = repair_cache version from to
@@ -130,9 +148,13 @@ module _ (version : Option ℕ) (from to : List ℕ) (before after : Objects) (o
   early : (r : Result KeptCache RepairFault) → result ≡ r → IsEarly (output_ending r) → IsUntouched opened.output after.output
   early r is before_writing = of_ending (λ ending. IsEarly ending → IsUntouched opened.output after.output) result r is done.output.early before_writing
 
+  -- where there is no room, block 0 alone was read
+  unread : (report : Reported) → (answer report).status ≡ 4 → after.input.reads ≤ before.input.reads + 1
+  unread report four = let most = done.early (small_if report saved room four) in omega arith
+
   alone : IsUntouched opened.output after.output → (report : Reported) (status : ℕ) → status ≢ 0 → Leaves report status
   alone same report status some =
-      left_alone (finding report) before after status fresh unput (record { held = same.held ∙ both.output.untouched.held; history = same.history ∙ both.output.untouched.history }) some
+      left_alone (finding report) before after status fresh unput (record { held = same.held ∙ both.output.untouched.held; history = same.history ∙ both.output.untouched.history }) some (unread report)
 
   -- it came to an answer without a line
   ended : (report : Reported) → IsRightHere report → (status : ℕ) (line : List ℕ) → status ≢ 0 → IsTrue (is_possible terms status)
@@ -175,7 +197,10 @@ module _ (version : Option ℕ) (from to : List ℕ) (before after : Objects) (o
       let right = memory_right (faults Cache Super) (saved_in version) before after opened both.input.untouched.held both.output.untouched.held measured place saved told result done.rules is in
       let none = memory_told (faults Cache Super) (saved_in version) before after opened both.input.untouched.held both.output.untouched.held measured place saved told result done.rules is in
       halted (report_of []) right Memory refl none
-      (first_lacking before after opened.output fresh both.output.untouched unput content (output_ending result) done.output (answer (report_of [])) zero_if (rw is tt))
+      (record {
+        made = first_lacking before after opened.output fresh both.output.untouched unput content (output_ending result) done.output (answer (report_of [])) zero_if (rw is tt);
+        unread = unread (report_of []);
+      })
   cache_unrepaired fault.Input is named counts =
       halted (report_in (faults Cache Super) before.input.held) (report-told (faults Cache Super) before.input.held) Device refl (inl (rw both.input.faults at counts.0.0))
       (alone (early (Err fault.Input) is tt) (report_in (faults Cache Super) before.input.held) 5 (λ e. omega arith))
@@ -183,7 +208,10 @@ module _ (version : Option ℕ) (from to : List ℕ) (before after : Objects) (o
       let right = output_right (faults Cache Super) (saved_in version) before after opened both.input.untouched.held both.output.untouched.held measured place saved told result done.rules is in
       let risen : Rose before.output.faults after.output.faults = rw both.output.faults at counts.1.0 in
       halted (report_of []) right Device refl (inr (inl risen))
-      (first_failed before after opened.output fresh both.output.untouched unput content (output_ending result) done.output (answer (report_of [])) zero_if risen)
+      (record {
+        made = first_failed before after opened.output fresh both.output.untouched unput content (output_ending result) done.output (answer (report_of [])) zero_if risen;
+        unread = unread (report_of []);
+      })
   cache_unrepaired (fault.NoSuper rules) is named counts = faulty rules is named
   cache_unrepaired (fault.NoRoom need blocks) is named counts = no_room need blocks is
 
@@ -207,6 +235,9 @@ module _ (version : Option ℕ) (from to : List ℕ) (before after : Objects) (o
         loud = λ e. absurd cc;
         loud_lost = λ e. absurd cc;
         unspared = λ some. some (ap (λ (a : Answer). a.status) answer_is);
-        leaves = first_done before after opened.output fresh both.output.untouched unput content (output_ending result) done.output (answer (report_of [])) zero_if
-            (of_ending (λ ending. IsMadeDone ending) (Ok kept) result (sym is) tt) (ap (λ (a : Answer). a.status) answer_is);
+        leaves = λ out status which touched. record {
+          made = first_done before after opened.output fresh both.output.untouched unput content (output_ending result) done.output (answer (report_of [])) zero_if
+              (of_ending (λ ending. IsMadeDone ending) (Ok kept) result (sym is) tt) (ap (λ (a : Answer). a.status) answer_is) out status which touched;
+          unread = unread (report_of []);
+        };
       }

@@ -33,10 +33,11 @@ pub(crate) fn open_all<A: Device, B: Device, C: Device>(
     requires input { (A.state input.old).access ≡ 0 }
     requires output { (B.state output.old).access ≡ 0 }
     requires third { (C.state third.old).access ≡ 0 }
-    ensures { (out : Use) →
+    ensures opened { (out : Use) →
         let old = devices (A.state input.old) (B.state output.old) (C.state third.old) in
         let new = devices (A.state input.new) (B.state output.new) (C.state third.new) in
         MatchResult result (λ _. AreOpened (uses_at out places.entry) old new) (λ _. AreUnopened (uses_at out places.entry) old new) }
+    ensures unread { (A.state input.new).reads ≡ (A.state input.old).reads }
 {
     open(places.input, input)?;
     open(places.output, output)?;
@@ -48,6 +49,7 @@ fn open<D: Device>(place: DevicePath<'_>, device: &mut D) -> Result<(), Failed>
     requires { (D.state device.old).access ≡ 0 }
     ensures opened { OnOk result (OpensAs (use_of place.entry) (D.state device.old) (D.state device.new)) }
     ensures asked { AsksAs (use_of place.entry) (D.state device.old) (D.state device.new) }
+    ensures unread { (D.state device.new).reads ≡ (D.state device.old).reads }
     ensures faults { CountsFault result (D.state device.old).faults (D.state device.new).faults }
 {
     match place {

@@ -26,7 +26,7 @@ pub(crate) trait Task {
 
     /// What holds of its terms: before a device is written, and where its line is lost.
     fn laws(&self)
-        ensures rests { (before after : Objects) → AreFresh before → AreAlone before after → IsAtRest (terms self.now) before after }
+        ensures rests { (before after : Objects) → AreFresh before → AreAlone before after → after.input.reads ≡ before.input.reads → IsAtRest (terms self.now) before after }
         ensures loses { LosesLine (terms self.now) }
         ensures reads { (before after : Objects) → (terms self.now).reads before after }
         ensures can_fail { IsTrue (is_possible (terms self.now) 5) };
@@ -48,7 +48,8 @@ pub(crate) trait Task {
         ensures works { (others : Objects) (notes : SinkState) (first : Devices) →
             let before = record others { input = first.input; output = first.output; third = first.third } in
             let after = record others { notes = notes; input = A.state input.new; output = B.state output.new; third = C.state third.new } in
-            AreFresh before → AreOpened (terms self.now).uses first (devices (A.state input.old) (B.state output.old) (C.state third.old)) → Works (terms self.now) before after result };
+            AreFresh before → AreOpened (terms self.now).uses first (devices (A.state input.old) (B.state output.old) (C.state third.old)) →
+            (A.state input.old).reads ≡ first.input.reads → Works (terms self.now) before after result };
 }
 
 /// Does what a task asks, and answers the status.

@@ -1,11 +1,15 @@
 use Rattle.std.proofs.Common.{None, ◌≡◌, ℕ, Bool, true, false, List, [], ◌∷◌, ◌++◌, Some, refl}
 use Rattle.std.proofs.lemmas.Option.{IfSome_then}
+use Rattle.pd_kinds.specs.Graph.{block_at}
+use Rattle.pd_kinds.specs.ThinSuper.{thin_fields}
+use Rattle.pd_answers.specs.KeptLines.{kept_text, told_from}
 use Rattle.pd_answers.specs.QueryLines.{kept}
 use Rattle.pd_exact.proofs.Asked.{answered_for, answers}
 use Rattle.std.specs.Prelude.{codes}
 use Rattle.pd_answers.specs.Requests.{query}
 use Rattle.pd_answers.specs.Words.{is_flag, items_of, given, version_of, tool_in, request_of, asked}
 use Rattle.pd_exact.specs.Words.{IsName, with_sharing}
+use Rattle.pd_exact.proofs.ToldRoom.{told_right}
 use Rattle.pd_exact.proofs.words.thin_repair_tells_what_it_would_keep.Goals as goal
 
 dry_repair_asked : (shared : Bool) (image : List ℕ) → IsName image
@@ -15,6 +19,7 @@ dry_repair_asked false image is_image = rw is_image refl
 dry_repair_asked true image is_image = rw is_image refl
 
 pub returns : goal.returns
+unfolding kept_text
 returns c = λ shared image before after is_image ends.
     IfSome_then before.input.held (answers kept None image before after (answered_for _ _ 0 before after (dry_repair_asked shared image is_image) ends))
-    (λ held is. record { sound = is.0; put = is.1 })
+    (λ held is. record { sound = is.0; told = told_from (thin_fields (block_at held 0)) held; right = told_right (thin_fields (block_at held 0)) held; put = is.1 })

@@ -7,19 +7,19 @@ use Rattle.pd_tools.proofs.NamedRepairs.{dry_search_done, dry_search_none, dry_s
 use Rattle.pd_tools.proofs.dry_search.DrySearchTask.work.Goals as goal
 
 pub returns-in-Some-clause-works : goal.returns-in-Some-clause-works
-returns-in-Some-clause-works g c others notes first fresh was =
+returns-in-Some-clause-works g c others notes first fresh was _ =
     let self = c.args.self.now in
     dry_search_done (given_as self.given) (option_map named_as self.named) self.path.now (record others { input = first.input; output = first.output; third = first.third }) _ (g.A.Device.state c.args.input.now) was.input
     c.in-Some.looked (rw c.in-Some.is at c.in_ok-looked.ensures.told)
 
 pub returns-in-None-clause-works : goal.returns-in-None-clause-works
-returns-in-None-clause-works g c others notes first fresh was =
+returns-in-None-clause-works g c others notes first fresh was _ =
     let self = c.args.self.now in
     dry_search_none (given_as self.given) (option_map named_as self.named) self.path.now (record others { input = first.input; output = first.output; third = first.third }) _ (g.A.Device.state c.args.input.now) was.input
     (rw c.in-None.is at c.in_ok-looked.ensures.told) (named_some _ named_as self.named (rw c.in-None.is at c.in_ok-looked.ensures.some))
 
 pub returns-in_err-looked-clause-works : goal.returns-in_err-looked-clause-works
-returns-in_err-looked-clause-works g c others notes first fresh was =
+returns-in_err-looked-clause-works g c others notes first fresh was _ =
     let self = c.args.self.now in
     let possible = dry_search_possible (option_map named_as self.named) in
     let stopped = err_from_is_err_and c.from_residual.result c.from_residual.ensures.1 in

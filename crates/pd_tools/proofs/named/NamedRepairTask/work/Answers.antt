@@ -9,7 +9,7 @@ use Rattle.pd_tools.proofs.Tasks.{still_opened}
 use Rattle.pd_tools.proofs.named.NamedRepairTask.work.Goals as goal
 
 pub returns-clause-works : goal.returns-clause-works
-returns-clause-works g c others notes first fresh was =
+returns-clause-works g c others notes first fresh was _ =
     let kept = c.named_super.ensures.kept in
     let self = c.args.self.now in
     rw c.ended_of.ensures
@@ -25,7 +25,7 @@ returns-clause-works g c others notes first fresh was =
     c.repair_lost.result c.repair_lost.ensures.repaired c.repair_lost.ensures.sound c.repair_lost.ensures.causes)
 
 pub returns-in_err-s-clause-works : goal.returns-in_err-s-clause-works
-returns-in_err-s-clause-works g c others notes first fresh was =
+returns-in_err-s-clause-works g c others notes first fresh was _ =
     let self = c.args.self.now in
     let stopped = err_from_is_err_and c.from_residual.result c.from_residual.ensures.1 in
     rw (stopped.1, stopped.2)

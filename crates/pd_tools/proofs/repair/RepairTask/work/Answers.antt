@@ -8,7 +8,7 @@ use Rattle.pd_tools.proofs.Repairs.{repair_statuses, repair_works}
 use Rattle.pd_tools.proofs.repair.RepairTask.work.Goals as goal
 
 pub returns-clause-works : goal.returns-clause-works
-returns-clause-works g c others notes first fresh was =
+returns-clause-works g c others notes first fresh was _ =
     rw c.ended_of.ensures
     (repair_works (faults Thin Super) repair_statuses (record { done = refl; no_room = refl; failed = refl; wanting = refl }) c.args.self.now.shared (saved_of c.args.self.now.shared) c.args.self.now.from.now c.args.self.now.to.now (record others { input = first.input; output = first.output; third = first.third })
     (record others { notes = notes; input = g.A.Device.state c.repair_pool.new.input; output = g.B.Device.state c.repair_pool.new.output; third = g.C.Device.state c.args.third.now })

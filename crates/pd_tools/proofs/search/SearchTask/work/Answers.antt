@@ -4,7 +4,7 @@ use Rattle.pd_tools.proofs.Tasks.{still_opened}
 use Rattle.pd_tools.proofs.search.SearchTask.work.Goals as goal
 
 pub returns-in-Some-clause-works : goal.returns-in-Some-clause-works
-returns-in-Some-clause-works g c others notes first fresh was =
+returns-in-Some-clause-works g c others notes first fresh was _ =
     let kept = c.find_roots.ensures.kept in
     c.write_found.ensures.works c.args.self.now.from.now c.args.self.now.to.now others notes first (g.C.Device.state c.args.third.now) fresh (record {
       input = still_opened was.input kept.access kept.path (record { held = kept.held; history = kept.history }) c.in-Ok.ensures.faults;
@@ -13,21 +13,21 @@ returns-in-Some-clause-works g c others notes first fresh was =
     })
 
 pub returns-in-None-clause-works : goal.returns-in-None-clause-works
-returns-in-None-clause-works g c others notes first fresh was =
+returns-in-None-clause-works g c others notes first fresh was _ =
     search_none c.args.self.now.shared c.args.self.now.given c.args.self.now.from.now c.args.self.now.to.now
     (record others { input = first.input; output = first.output; third = first.third })
     (devices (g.A.Device.state c.args.input.now) (g.B.Device.state c.args.output.now) (g.C.Device.state c.args.third.now)) notes (g.A.Device.state c.find_roots.new.dev) fresh was (g.met.B.Device.measured c.args.output.now)
     (λ _. g.met.C.Device.measured c.args.third.now) c.find_roots.ensures.kept (rw c.in-None.is at c.in-Ok.ensures.found)
 
 pub returns-in-Memory-clause-works : goal.returns-in-Memory-clause-works
-returns-in-Memory-clause-works g c others notes first fresh was =
+returns-in-Memory-clause-works g c others notes first fresh was _ =
     search_wanting c.args.self.now.shared c.args.self.now.given c.args.self.now.from.now c.args.self.now.to.now
     (record others { input = first.input; output = first.output; third = first.third })
     (devices (g.A.Device.state c.args.input.now) (g.B.Device.state c.args.output.now) (g.C.Device.state c.args.third.now)) notes (g.A.Device.state c.find_roots.new.dev) fresh was (g.met.B.Device.measured c.args.output.now)
     (λ _. g.met.C.Device.measured c.args.third.now) c.find_roots.ensures.kept
 
 pub returns-in-Device-clause-works : goal.returns-in-Device-clause-works
-returns-in-Device-clause-works g c others notes first fresh was =
+returns-in-Device-clause-works g c others notes first fresh was _ =
     search_unread c.args.self.now.shared c.args.self.now.given c.args.self.now.from.now c.args.self.now.to.now
     (record others { input = first.input; output = first.output; third = first.third })
     (devices (g.A.Device.state c.args.input.now) (g.B.Device.state c.args.output.now) (g.C.Device.state c.args.third.now)) notes (g.A.Device.state c.find_roots.new.dev) fresh was (g.met.B.Device.measured c.args.output.now)

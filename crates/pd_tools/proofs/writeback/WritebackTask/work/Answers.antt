@@ -9,14 +9,14 @@ use Rattle.pd_tools.proofs.Tasks.{still_opened}
 use Rattle.pd_tools.proofs.writeback.WritebackTask.work.Goals as goal
 
 pub returns-in_err-report-clause-works : goal.returns-in_err-report-clause-works
-returns-in_err-report-clause-works g c others notes first fresh was =
+returns-in_err-report-clause-works g c others notes first fresh was _ =
     let stopped = writeback_unread c.args.self.now.metadata.now c.args.self.now.fast.now c.args.self.now.origin.now (record others { input = first.input; output = first.output; third = first.third })
     (devices (g.A.Device.state c.args.input.now) (g.B.Device.state c.args.output.now) (g.C.Device.state c.args.third.now)) notes (g.A.Device.state c.check_attached.new.input) fresh was c.in_err-report.ensures.untouched
     (g.met.B.Device.measured c.args.output.now) (g.met.C.Device.measured c.args.third.now) c.in_err-report.field-0.0 c.in_err-report.ensures.stopped in
     search rules
 
 pub returns-then-not-is_empty-clause-works : goal.returns-then-not-is_empty-clause-works
-returns-then-not-is_empty-clause-works g c others notes first fresh was =
+returns-then-not-is_empty-clause-works g c others notes first fresh was _ =
     let faulty : c.is_empty.result ≡ false = first_of (search rules, grind (arith, nat_tests)) in
     writeback_faulty c.args.self.now.metadata.now c.args.self.now.fast.now c.args.self.now.origin.now (record others { input = first.input; output = first.output; third = first.third })
     (devices (g.A.Device.state c.args.input.now) (g.B.Device.state c.args.output.now) (g.C.Device.state c.args.third.now)) notes (g.A.Device.state c.check_attached.new.input) fresh was c.in_ok-report.ensures.untouched
@@ -29,7 +29,7 @@ write_sound-requires-clause-sound g c =
     (one_told (g.A.Device.state c.args.input.now).held (λ image is. none_reported Cache Whole image c.in_ok-report.report is (sym c.is_empty.ensures ∙ clean)) c.in_ok-report.ensures.report)
 
 pub returns-clause-works : goal.returns-clause-works
-returns-clause-works g c others notes first fresh was =
+returns-clause-works g c others notes first fresh was _ =
     let kept = c.in_ok-report.ensures in
     c.write_sound.ensures.works c.args.self.now.metadata.now c.args.self.now.fast.now c.args.self.now.origin.now others notes first fresh (record {
       input = still_opened was.input kept.access kept.path kept.untouched kept.kept;
