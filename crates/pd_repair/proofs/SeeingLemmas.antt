@@ -3,7 +3,7 @@ use Rattle.std.proofs.Common.{◌≡◌, ℕ, ◌+◌, ◌-◌, ◌<◌, ◌≤�
 use Rattle.std.specs.List.{list_any, range_with_len}
 use Rattle.std.specs.Prelude.{sum_by}
 use Rattle.std.proofs.lemmas.Bool.Decides.{nat_tests}
-use Rattle.std.proofs.lemmas.List.{drop-drop, drop_all, drop_more, length-drop}
+use Rattle.std.proofs.lemmas.List.{append-nil, drop-drop, drop_all, drop_more, length-drop}
 use Rattle.std.proofs.lemmas.List.Sums.{sum_by-drop_more}
 use Rattle.pd_kinds.specs.Meaning.{Mapping}
 use Rattle.pd_count.specs.Counted.{Counted, count_of}
@@ -41,14 +41,28 @@ shared_later counts t n i often within is less =
 joined_next : {T : Type 0} (seen : List T) (one : T) (rest before all : List T) → one ∷ rest ≡ before → seen ++ before ≡ all → (seen ++ one ∷ []) ++ rest ≡ all
 joined_next {T} seen one rest before all is joined = append_assoc seen (one ∷ []) rest ∙ (ap (λ (xs : List T). seen ++ xs) is ∙ joined)
 
+-- a device with another snapped time
+abbrev pub device_at : SavedDevice → ℕ → SavedDevice
+device_at d snapped = record { id = d.id; details = snapped_at d.details snapped; runs = d.runs }
+
+abbrev pub shaped_at : ShapedDevice → ℕ → ShapedDevice
+shaped_at d snapped = record { id = d.id; details = snapped_at d.details snapped; pieces = d.pieces }
+
+-- what stands past the last device
+abbrev pub no_saved : SavedDevice
+no_saved = record { id = 0; details = record { mapped = 0; transaction = 0; created = 0; snapped = 0 }; runs = 0 }
+
+abbrev pub no_shaped : ShapedDevice
+no_shaped = record { id = 0; details = record { mapped = 0; transaction = 0; created = 0; snapped = 0 }; pieces = 0 }
+
 -- a device more
 pub devices_next : (test : ℕ → Bool) (ds : List SavedDevice) (i : ℕ) (d : SavedDevice) (seen : List SavedDevice) (snapped : ℕ) (runs later : List Run) (all : List SavedDevice) → i < length ds
     → (let e = get_or ds i d in snapped ≡ snap_after test e.details.snapped (mappings_of_runs (take e.runs runs)) → later ≡ drop e.runs runs → seen ++ seen_devices test (drop i ds) runs ≡ all
-    → (seen ++ record { id = e.id; details = snapped_at e.details snapped; runs = e.runs } ∷ []) ++ seen_devices test (drop (i + 1) ds) later ≡ all)
+    → (seen ++ device_at e snapped ∷ []) ++ seen_devices test (drop (i + 1) ds) later ≡ all)
 devices_next test ds i d seen snapped runs later all within is behind joined =
     let e = get_or ds i d in
-    joined_next seen (record { id = e.id; details = snapped_at e.details snapped; runs = e.runs }) (seen_devices test (drop (i + 1) ds) later) (seen_devices test (drop i ds) runs) all
-    (ap₂ (λ (s : ℕ) (rs : List Run). ◌∷◌ {A = SavedDevice} (record { id = e.id; details = snapped_at e.details s; runs = e.runs }) (seen_devices test (drop (i + 1) ds) rs)) is behind
+    joined_next seen (device_at e snapped) (seen_devices test (drop (i + 1) ds) later) (seen_devices test (drop i ds) runs) all
+    (ap₂ (λ (s : ℕ) (rs : List Run). device_at e s ∷ seen_devices test (drop (i + 1) ds) rs) is behind
     ∙ ap (λ (es : List SavedDevice). seen_devices test es runs) (sym (drop_more ds i d within)))
     joined
 
@@ -68,17 +82,13 @@ pub shaped_next : (test : ℕ → Bool) (leaves : List (List Mapping)) (ds : Lis
     (runs later : List Run) (all : List ShapedDevice) → i < length ds
     → (let e = get_or ds i d in snapped ≡ snap_after test e.details.snapped (mappings_of_pieces leaves (take e.pieces pieces) runs) → others ≡ drop e.pieces pieces
     → later ≡ drop (runs_of_pieces (take e.pieces pieces)) runs → seen ++ seen_shaped test leaves (drop i ds) pieces runs ≡ all
-    → (seen ++ record { id = e.id; details = snapped_at e.details snapped; pieces = e.pieces } ∷ []) ++ seen_shaped test leaves (drop (i + 1) ds) others later ≡ all)
+    → (seen ++ shaped_at e snapped ∷ []) ++ seen_shaped test leaves (drop (i + 1) ds) others later ≡ all)
 shaped_next test leaves ds i d seen snapped pieces others runs later all within is rest behind joined =
     let e = get_or ds i d in
-    joined_next seen (record { id = e.id; details = snapped_at e.details snapped; pieces = e.pieces }) (seen_shaped test leaves (drop (i + 1) ds) others later)
+    joined_next seen (shaped_at e snapped) (seen_shaped test leaves (drop (i + 1) ds) others later)
     (seen_shaped test leaves (drop i ds) pieces runs) all
-    (ap (λ (s : ℕ). ◌∷◌ {A = ShapedDevice} (record { id = e.id; details = snapped_at e.details s; pieces = e.pieces }) (seen_shaped test leaves (drop (i + 1) ds) others later)) is
-    ∙ (ap₂ (λ (ps : List SavedPiece) (rs : List Run). ◌∷◌ {A = ShapedDevice} (record {
-      id = e.id;
-      details = snapped_at e.details (snap_after test e.details.snapped (mappings_of_pieces leaves (take e.pieces pieces) runs));
-      pieces = e.pieces;
-    }) (seen_shaped test leaves (drop (i + 1) ds) ps rs)) rest behind
+    (ap (λ (s : ℕ). shaped_at e s ∷ seen_shaped test leaves (drop (i + 1) ds) others later) is
+    ∙ (ap₂ (λ (ps : List SavedPiece) (rs : List Run). shaped_at e (snap_after test e.details.snapped (mappings_of_pieces leaves (take e.pieces pieces) runs)) ∷ seen_shaped test leaves (drop (i + 1) ds) ps rs) rest behind
     ∙ ap (λ (es : List ShapedDevice). seen_shaped test leaves es pieces runs) (sym (drop_more ds i d within))))
     joined
 
@@ -120,3 +130,19 @@ pieces_over test leaves snap pieces i runs over = rw (drop_all i pieces over) re
 
 pub none_over : (pieces : List SavedPiece) (i : ℕ) (runs : List Run) → length pieces ≤ i → drop (runs_of_pieces (drop i pieces)) runs ≡ runs
 none_over pieces i runs over = rw (drop_all i pieces over) refl
+
+-- no device is left, and no leaf
+pub devices_over : (test : ℕ → Bool) (ds : List SavedDevice) (i : ℕ) (seen : List SavedDevice) (runs : List Run) (all : List SavedDevice) → length ds ≤ i
+    → seen ++ seen_devices test (drop i ds) runs ≡ all → seen ≡ all
+devices_over test ds i seen runs all over joined =
+    sym (append-nil seen) ∙ (ap (λ (es : List SavedDevice). seen ++ seen_devices test es runs) (sym (drop_all i ds over)) ∙ joined)
+
+pub shaped_over : (test : ℕ → Bool) (leaves : List (List Mapping)) (ds : List ShapedDevice) (i : ℕ) (seen : List ShapedDevice) (pieces : List SavedPiece) (runs : List Run) (all : List ShapedDevice)
+    → length ds ≤ i → seen ++ seen_shaped test leaves (drop i ds) pieces runs ≡ all → seen ≡ all
+shaped_over test leaves ds i seen pieces runs all over joined =
+    sym (append-nil seen) ∙ (ap (λ (es : List ShapedDevice). seen ++ seen_shaped test leaves es pieces runs) (sym (drop_all i ds over)) ∙ joined)
+
+pub leaves_over : (test : ℕ → Bool) (leaves : List SavedLeaf) (i : ℕ) (snaps : List ℕ) (runs : List Run) (all : List ℕ) → length leaves ≤ i
+    → snaps ++ snaps_of test (map mappings_spelled (leaf_parts (drop i leaves) runs)) ≡ all → snaps ≡ all
+leaves_over test leaves i snaps runs all over joined =
+    sym (append-nil snaps) ∙ (ap (λ (ls : List SavedLeaf). snaps ++ snaps_of test (map mappings_spelled (leaf_parts ls runs))) (sym (drop_all i leaves over)) ∙ joined)

@@ -14,13 +14,24 @@ use Rattle.pd_salvage.specs.declared.saved.SavedDevice.{SavedDevice}
 use Rattle.pd_salvage.specs.Gather.{mappings_of_runs}
 use Rattle.pd_salvage.specs.Saved.{IsJoined, IsSavedPool, SavedPool, parts_of, pool_of, runs_of_devices, with_devices}
 use Rattle.pd_restore.specs.Overflowing.{HasCountedThrice}
-use Rattle.pd_repair.specs.Snaps.{is_twice, seen_devices, snap_after}
+use Rattle.pd_repair.specs.Snaps.{is_twice, seen_devices, snap_after, snapped_at}
 use Rattle.pd_repair.proofs.SnapLemmas.{counted_snap, snap_fits, stands_twice}
 
 -- when a device is snapped, by what was counted
 pub device_snap : (counts : Counted) (places : List ℕ) → HasCountedThrice counts places → (d : ThinDevice) → snap_after (is_twice counts) d.snapped d.mappings ≡ seen_snap places d
 unfolding seen_snap
 device_snap counts places counted d = counted_snap counts places counted d.snapped d.mappings
+
+-- a device with another snapped time
+abbrev snapped_device : ThinDevice → ℕ → ThinDevice
+snapped_device d snapped = record {
+  id = d.id;
+  mapped = d.mapped;
+  transaction = d.transaction;
+  created = d.created;
+  snapped = snapped;
+  mappings = d.mappings;
+}
 
 -- the devices of the pool
 devices_seen : (counts : Counted) (places : List ℕ) → HasCountedThrice counts places → (ds : List SavedDevice) (runs : List Run)
@@ -36,14 +47,7 @@ devices_seen counts places counted (d ∷ ds) runs =
       snapped = d.details.snapped;
       mappings = ms;
     } in
-    ap₂ (λ (s : ℕ) (others : List ThinDevice). ◌∷◌ {A = ThinDevice} (record {
-      id = d.id;
-      mapped = d.details.mapped;
-      transaction = d.details.transaction;
-      created = d.details.created;
-      snapped = s;
-      mappings = ms;
-    }) others)
+    ap₂ (λ (s : ℕ) (others : List ThinDevice). snapped_device bare s ∷ others)
     (device_snap counts places counted bare) (devices_seen counts places counted ds (drop d.runs runs))
 
 -- when they are snapped
@@ -119,8 +123,8 @@ joined_seen test (d ∷ ds) runs joined = (joined.0, joined_seen test ds (drop d
 number_seen : (test : ℕ → Bool) (ds : List SavedDevice) (runs : List Run) → runs_of_devices (seen_devices test ds runs) ≡ runs_of_devices ds
 number_seen test [] runs = refl
 number_seen test (d ∷ ds) runs =
-    let at : List SavedDevice = seen_devices test (d ∷ ds) runs in
-    sum_by-cons (λ (d : SavedDevice). d.runs) _ (seen_devices test ds (drop d.runs runs))
+    let e : SavedDevice = record { id = d.id; details = snapped_at d.details (snap_after test d.details.snapped (mappings_of_runs (take d.runs runs))); runs = d.runs } in
+    sum_by-cons (λ (d : SavedDevice). d.runs) e (seen_devices test ds (drop d.runs runs))
     ∙ (ap (λ (n : ℕ). d.runs + n) (number_seen test ds (drop d.runs runs)) ∙ sym (sum_by-cons (λ (d : SavedDevice). d.runs) d ds))
 
 pub saved_seen : (saved : SavedPool) (counts : Counted) (time : ℕ) → HasCountedThrice counts (mapped_data (pool_of saved)) → time < 2 ^ 32 → IsSavedPool saved

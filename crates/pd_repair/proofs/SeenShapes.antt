@@ -15,7 +15,7 @@ use Rattle.pd_salvage.specs.declared.saved_shape.SavedPiece.{SavedPiece}
 use Rattle.pd_salvage.specs.declared.saved_shape.ShapedDevice.{ShapedDevice}
 use Rattle.pd_salvage.specs.SavedShape.{HeldShape, IsPartJoined, IsSavedShape, device_parts, held_shape, leaf_parts, runs_of_pieces, with_devices}
 use Rattle.pd_restore.specs.Overflowing.{HasCountedThrice}
-use Rattle.pd_repair.specs.Snaps.{is_twice, mappings_of_pieces, seen_shaped}
+use Rattle.pd_repair.specs.Snaps.{is_twice, mappings_of_pieces, seen_shaped, snap_after, snapped_at}
 use Rattle.pd_repair.proofs.SeenLemmas.{device_snap, lawful_seen, snaps_seen}
 
 -- a device of a shape with these leaves, seen by some data blocks
@@ -139,7 +139,12 @@ number_seen : (test : ℕ → Bool) (leaves : List (List Mapping)) (ds : List Sh
 number_seen test leaves [] ps runs = refl
 number_seen test leaves (d ∷ ds) ps runs =
     let rest = drop (runs_of_pieces (take d.pieces ps)) runs in
-    sum_by-cons (λ (d : ShapedDevice). d.pieces) _ (seen_shaped test leaves ds (drop d.pieces ps) rest)
+    let e : ShapedDevice = record {
+      id = d.id;
+      details = snapped_at d.details (snap_after test d.details.snapped (mappings_of_pieces leaves (take d.pieces ps) runs));
+      pieces = d.pieces;
+    } in
+    sum_by-cons (λ (d : ShapedDevice). d.pieces) e (seen_shaped test leaves ds (drop d.pieces ps) rest)
     ∙ (ap (λ (n : ℕ). d.pieces + n) (number_seen test leaves ds (drop d.pieces ps) rest) ∙ sym (sum_by-cons (λ (d : ShapedDevice). d.pieces) d ds))
 
 pub shape_sound : (h : HeldShape) (counts : Counted) (time : ℕ) → HasCountedThrice counts (mapped_data (pool_of (held_shape h))) → time < 2 ^ 32 → IsSavedShape h

@@ -3,7 +3,7 @@ use Rattle.std.proofs.Common.{◌≡◌, ℕ, zero, suc, ◌+◌, ◌-◌, ◌^�
 use Rattle.std.specs.List.{count_by, filter, list_any, range_with_len}
 use Rattle.std.specs.Prelude.{fold}
 use Rattle.std.proofs.lemmas.Bool.Decides.{nat_tests}
-use Rattle.std.proofs.lemmas.Bool.{or_parts}
+use Rattle.std.proofs.lemmas.Bool.{false≢true, or_parts}
 use Rattle.pd_kinds.specs.Meaning.{Mapping}
 use Rattle.pd_count.specs.Counted.{Counted, count_of}
 use Rattle.pd_laid.specs.Shape.{leaf_mappings}
@@ -65,19 +65,19 @@ unshared test v d t (suc n) snap rest none =
 -- and one with such a block
 pub shared_run : (test : ℕ → Bool) (v d t n snap : ℕ) (rest : List Mapping) → list_any test (range_with_len d n) ≡ true → snap ≤ t
     → snap_after test snap (mappings_from v d t n ++ rest) ≡ snap_after test (t + 1) rest
-shared_run test v d t zero snap rest () most
+shared_run test v d t zero snap rest some most = absurd (false≢true some)
 shared_run test v d t (suc n) snap rest some most =
-    one_more test snap (record { virtual_block = v; data_block = d; time = t }) others ∙ by (test d) some
+    let later : list_any test (range_with_len (d + 1) n) ≡ true → snap_after test snap (mappings_from (suc v) (suc d) t n ++ rest) ≡ snap_after test (t + 1) rest =
+    λ more. shared_run test (suc v) (suc d) t n snap rest (rw add-one at more) most in
+    one_more test snap (record { virtual_block = v; data_block = d; time = t }) (mappings_from (suc v) (suc d) t n ++ rest) ∙ by (test d) some later
   where
-    others : List Mapping
-    others = mappings_from (suc v) (suc d) t n ++ rest
-
-    raised : max snap (t + 1) ≡ t + 1
-    raised = omega arith
-
-    by : (b : Bool) → (b || list_any test (range_with_len (d + 1) n)) ≡ true → snap_after test (cond b (max snap (t + 1)) snap) others ≡ snap_after test (t + 1) rest
-    by true some = ap (λ (s : ℕ). snap_after test s others) raised ∙ older test (suc v) (suc d) t n (t + 1) rest (omega arith)
-    by false some = let later : list_any test (range_with_len (suc d) n) ≡ true = rw add-one at some in shared_run test (suc v) (suc d) t n snap rest later most
+    by : (b : Bool) → (b || list_any test (range_with_len (d + 1) n)) ≡ true
+        → (list_any test (range_with_len (d + 1) n) ≡ true → snap_after test snap (mappings_from (suc v) (suc d) t n ++ rest) ≡ snap_after test (t + 1) rest)
+        → snap_after test (cond b (max snap (t + 1)) snap) (mappings_from (suc v) (suc d) t n ++ rest) ≡ snap_after test (t + 1) rest
+    by true some later =
+        let raised : max snap (t + 1) ≡ t + 1 = omega (arith, most) in
+        ap (λ (s : ℕ). snap_after test s (mappings_from (suc v) (suc d) t n ++ rest)) raised ∙ older test (suc v) (suc d) t n (t + 1) rest (omega arith)
+    by false some later = later some
 
 -- the latest of a time and of others is the later one of it and of the latest of these
 snap_max : (test : ℕ → Bool) (a b : ℕ) (ms : List Mapping) → snap_after test (max a b) ms ≡ max a (snap_after test b ms)

@@ -122,6 +122,15 @@ module _ {M : Type 0} (content : M → Content) (saved_from : ThinFields → Ima
       unwritten pool saving.Memory = resting (content pool) lacking device (λ none. none) tt
       unwritten pool saving.Device = resting (content pool) unbegun device (λ none. none) tt
 
+  -- or memory was wanting before anything was written
+  pub never_seen : (fields : ThinFields) (result : Result (Unit {0}) RepairFault) (from device : DeviceState) → result ≡ Err f.Memory
+      → IsRepairedFromAs content saved_from fields result from device device
+  never_seen fields result from device is = record {
+    pool = saved_in (saved_from fields) from.held;
+    right = saved_told (saved_from fields) from.held;
+    output = rw is (resting (content (saved_in (saved_from fields) from.held)) lacking device (λ none. none) tt);
+  }
+
   abbrev saved_of : Image → M
   saved_of image = saved_from (thin_fields (block_at image 0)) image
 

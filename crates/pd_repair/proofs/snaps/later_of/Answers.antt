@@ -3,10 +3,10 @@ use Rattle.pd_repair.specs.Snaps.{is_twice, snap_after}
 use Rattle.pd_repair.proofs.SnapLemmas.{older, shared_run, unshared}
 use Rattle.pd_repair.proofs.snaps.later_of.Goals as goal
 
-pub returns-then-run-lt : goal.returns-then-run-lt
-returns-then-run-lt c rest =
+pub returns-then-run-latest : goal.returns-then-run-latest
+returns-then-run-latest c rest =
     let run = c.args.run in
-    older (is_twice c.args.counted.now) run.virt run.target run.time run.length c.args.latest rest c.if-run-lt.true
+    older (is_twice c.args.counted.now) run.virt run.target run.time run.length c.args.latest rest c.if-run-latest.true
 
 pub returns-then-has_shared : goal.returns-then-has_shared
 returns-then-has_shared c rest =

@@ -19,8 +19,8 @@ loop-run-init c =
       stays = row_left row runs;
     }
 
-pub later_of-requires : goal.later_of-requires
-later_of-requires c = (rw c.in-Some.ensures.some at c.loop-run.invariant.within).0
+pub later_of-latest-requires : goal.later_of-latest-requires
+later_of-latest-requires c = (rw c.in-Some.ensures.some at c.loop-run.invariant.within).0
 
 pub loop-run-preserved : goal.loop-run-preserved
 loop-run-preserved c =
