@@ -12,7 +12,8 @@ use Rattle.pd_shapes.specs.SavedShape.{saved_shape_from}
 use Rattle.pd_shapes.specs.SharedText.{device_of_part, mappings_of_runs}
 use Rattle.pd_spells.specs.ThinText.{mappings_from, mappings_of}
 use Rattle.pd_answers.specs.KeptLines.{found_mapped}
-use Rattle.pd_answers.specs.NamedRoots.{lacks_details, saved_time}
+use Rattle.pd_answers.specs.NamedRoots.{lacks_details, latest_time, pool_time, saved_time}
+use Rattle.pd_answers.specs.Seen.{raised_time}
 use Rattle.pd_thin_meaning.specs.declared.joined.Run.{Run}
 use Rattle.pd_thin_meaning.specs.Joined.{spelled}
 use Rattle.pd_salvage.specs.SavedShape.{HeldShape, IsSavedShape, device_parts, held_shape, leaf_parts}
@@ -115,3 +116,15 @@ time_is fields image h stored shape means numbers =
     let pairs : map device_pair m.devices ≡ map saved_pair h.devices = ap (λ (p : ThinPool). map device_pair p.devices) (sym whole) ∙ pairs_are h in
     let lacking : lacks (map saved_pair h.devices) (map pair_of stored) ≡ lacks_details fields image = ap₂ lacks (sym pairs) numbers ∙ sym (lacks_is fields image m.devices) in
     ap₂ (λ (b : Bool) (p : ThinPool). cond b (min (fold max 0 (flat_map times_of p.devices) + 1) (2 ^ 32 - 1)) (fold max 0 (flat_map times_of p.devices))) lacking whole
+
+-- and so is the pool's own
+latest_same : (fields : ThinFields) (image : List (List ℕ)) (h : HeldShape) → held_shape h ≡ saved_shape_from fields image
+    → pool_of (saved_shape_from fields image) ≡ salvage_from fields image → latest_of_shape h ≡ latest_time fields image
+unfolding latest_of_shape
+latest_same fields image h shape means = ap (λ (p : ThinPool). fold max 0 (flat_map times_of p.devices)) (ap pool_of shape ∙ means)
+
+pub pool_time_is : (fields : ThinFields) (image : List (List ℕ)) (h : HeldShape) (stored : List StoredNumber) → held_shape h ≡ saved_shape_from fields image
+    → pool_of (saved_shape_from fields image) ≡ salvage_from fields image → map pair_of stored ≡ stored_numbers fields image
+    → raised_time (latest_of_shape h) (time_by h stored) ≡ pool_time fields image
+unfolding pool_time
+pool_time_is fields image h stored shape means numbers = ap₂ raised_time (latest_same fields image h shape means) (time_is fields image h stored shape means numbers)
