@@ -618,10 +618,15 @@ for number in 3 4 5 7; do
     try 6 thin_dump -o /dev/fd/$number thin-pool.img
     same thin-pool.img before.img
 done
-# what is printed goes to the device
+# what is printed goes to the device: then it isn't opened, and nothing is said on it
 for stream in '>>' '2>>'; do
-    # shellcheck disable=SC2016 # the inner shell's
-    try 5 sh -c "pdata_tools thin_check --clear-needs-check-flag thin-pool.img ${stream}thin-pool.img"
+    case $stream in
+    '>>') wanted=5 ;;
+    *) wanted=6 ;;
+    esac
+    try $wanted sh -c "pdata_tools thin_check --clear-needs-check-flag thin-pool.img ${stream}thin-pool.img"
+    out
+    same thin-pool.img before.img
     try 5 sh -c "thin_check --clear-needs-check-flag thin-pool.img ${stream}thin-pool.img"
     out
     case $stream in
