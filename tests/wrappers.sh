@@ -331,7 +331,8 @@ try 0 thin_check --until super damaged.img
 # little address space: the system may not start it, and no signal ends it
 # shellcheck disable=SC3045 # a shell without such limits is skipped
 if (ulimit -v 1048576) 2>/dev/null; then
-    for limit in 2800 3000 3200 3500 3800 4100 4400 4700 5000 6000; do
+    # (the program itself takes some 2900 KiB: around that, in small steps)
+    for limit in 2800 $(seq 2864 8 2984) 3000 3200 3500 3800 4100 4400 4700 5000 6000; do
         what="a check with $limit KiB of address space"
         tries=$((tries + 1))
         (ulimit -v $limit && exec pdata_tools thin_check thin-pool.img) >out 2>notes
