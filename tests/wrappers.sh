@@ -331,7 +331,8 @@ try 0 thin_check --until super damaged.img
 # little address space: the system may not start it, and no signal ends it
 # shellcheck disable=SC3045 # a shell without such limits is skipped
 if (ulimit -v 1048576) 2>/dev/null; then
-    for limit in 2800 3000 3200 3500 3800 4100 4400 4700 5000 6000; do
+    # (the program itself takes some 2900 KiB: around that, in small steps)
+    for limit in 2800 $(seq 2864 8 2984) 3000 3200 3500 3800 4100 4400 4700 5000 6000; do
         what="a check with $limit KiB of address space"
         tries=$((tries + 1))
         (ulimit -v $limit && exec pdata_tools thin_check thin-pool.img) >out 2>notes
@@ -618,10 +619,15 @@ for number in 3 4 5 7; do
     try 6 thin_dump -o /dev/fd/$number thin-pool.img
     same thin-pool.img before.img
 done
-# what is printed goes to the device
+# what is printed goes to the device: then it isn't opened, and nothing is said on it
 for stream in '>>' '2>>'; do
-    # shellcheck disable=SC2016 # the inner shell's
-    try 5 sh -c "pdata_tools thin_check --clear-needs-check-flag thin-pool.img ${stream}thin-pool.img"
+    case $stream in
+    '>>') wanted=5 ;;
+    *) wanted=6 ;;
+    esac
+    try $wanted sh -c "pdata_tools thin_check --clear-needs-check-flag thin-pool.img ${stream}thin-pool.img"
+    out
+    same thin-pool.img before.img
     try 5 sh -c "thin_check --clear-needs-check-flag thin-pool.img ${stream}thin-pool.img"
     out
     case $stream in

@@ -30,6 +30,8 @@ pub struct OpenFiles<'a, R: Files> {
     _numbers: (Option<R::File>, Option<R::File>, Option<R::File>),
     /// Where standard output and standard error go, if that is a file or a block device.
     streams: [Option<FileId>; 2],
+    /// Whether a device was refused since standard error goes to it. Then nothing may be said.
+    is_silent: Cell<bool>,
     /// What the text and the three devices have opened.
     objects: Cell<[Option<FileId>; 4]>,
 }
@@ -44,6 +46,7 @@ where
             rt,
             _numbers: (take_number(rt)?, take_number(rt)?, take_number(rt)?),
             streams: [id_at(rt, "/proc/self/fd/1"), id_at(rt, "/proc/self/fd/2")],
+            is_silent: Cell::new(false),
             objects: Cell::new([None; 4]),
         })
     }
@@ -62,6 +65,7 @@ impl<'a, R: Files> OpenFiles<'a, R> {
         }
         let id = id_of(&metadata);
         if has(&self.streams, id) {
+            self.is_silent.set(id == self.streams[1]);
             return Err(ErrorKind::ResourceBusy.into());
         }
         self.claim(id)?;
@@ -93,6 +97,11 @@ impl<'a, R: Files> OpenFiles<'a, R> {
             file.set_len(0)?;
         }
         Ok(file)
+    }
+
+    /// Whether nothing may be printed to standard error.
+    pub(crate) fn is_silent(&self) -> bool {
+        self.is_silent.get()
     }
 
     /// Notes that an object has this file. It is refused if another one has it.

@@ -81,6 +81,7 @@ impl<'a, R: Files + Print + Eprint> Sink for StdSink<'a, R> {
         let done = match (&mut self.file, self.stream) {
             (Some(file), _) => file.write_all(bytes),
             (None, Stream::Out) => put_out(self.files.rt, bytes),
+            (None, Stream::Err) if self.files.is_silent() => Err(ErrorKind::ResourceBusy.into()),
             (None, Stream::Err) => put_err(self.files.rt, bytes),
         };
         counted_outcome(done, &mut self.faults)
