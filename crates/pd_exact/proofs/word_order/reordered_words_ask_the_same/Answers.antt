@@ -1,4 +1,4 @@
-use Rattle.std.proofs.Common.{◌∷◌, sym}
+use Rattle.std.proofs.Common.{◌∷◌}
 use Rattle.pd_answers.specs.Words.{asked}
 use Rattle.pd_exact.specs.WordOrder.{words_of_groups}
 use Rattle.pd_exact.proofs.Asked.{answered_for}
