@@ -1,14 +1,14 @@
 -- A pool in which sharing is seen: it is what the counts tell, and lawful.
-use Rattle.std.proofs.Common.{◌≡◌, ℕ, ◌+◌, ◌^◌, ◌<◌, ◌≤◌, max, min, Bool, List, [], ◌∷◌, length, map, take, drop, refl, sym, ap, ap₂, subst, ◌∙◌, arith}
+use Rattle.std.proofs.Common.{◌≡◌, ℕ, ◌+◌, ◌^◌, ◌<◌, max, Bool, List, [], ◌∷◌, map, take, drop, refl, sym, ap, ap₂, subst, ◌∙◌, arith}
 use Rattle.std.specs.List.{AllByRecursion}
-use Rattle.std.specs.Prelude.{fold, sum_by}
+use Rattle.std.specs.Prelude.{fold}
 use Rattle.std.proofs.lemmas.List.Sums.{sum_by-cons}
-use Rattle.pd_kinds.specs.Meaning.{Mapping, ThinDevice, ThinPool}
+use Rattle.pd_kinds.specs.Meaning.{ThinDevice, ThinPool}
 use Rattle.pd_count.specs.Counted.{Counted}
 use Rattle.pd_answers.specs.Seen.{raised_time, seen_device, seen_pool, seen_snap, seen_time, timed_pool}
 use Rattle.pd_spells.specs.Lawful.{AreDevices, IsLawfulPool}
 use Rattle.pd_spells.specs.ThinNeed.{mapped_data}
-use Rattle.pd_spells.specs.ThinText.{Part, device_of_part}
+use Rattle.pd_spells.specs.ThinText.{device_of_part}
 use Rattle.pd_thin_meaning.specs.declared.joined.Run.{Run}
 use Rattle.pd_salvage.specs.declared.saved.SavedDevice.{SavedDevice}
 use Rattle.pd_salvage.specs.Gather.{mappings_of_runs}

@@ -1,9 +1,9 @@
 -- A shape in which sharing is seen: it is what the counts tell, and a shape that means a lawful pool.
-use Rattle.std.proofs.Common.{◌≡◌, ℕ, ◌+◌, ◌^◌, ◌<◌, ◌≤◌, max, true, Bool, List, [], ◌∷◌, ◌++◌, eqb, length, map, take, drop, refl, sym, ap, ap₂, subst, ◌∙◌}
+use Rattle.std.proofs.Common.{◌≡◌, ℕ, ◌+◌, ◌^◌, ◌<◌, max, Bool, List, [], ◌∷◌, ◌++◌, eqb, length, map, take, drop, refl, sym, ap, ap₂, subst, ◌∙◌}
 use Rattle.std.specs.List.{AllByRecursion, flat_map, list_any}
 use Rattle.std.specs.Prelude.{fold, sum_by}
 use Rattle.std.proofs.lemmas.List.Sums.{sum_by-cons}
-use Rattle.pd_kinds.specs.Meaning.{Mapping, ThinDevice, ThinPool}
+use Rattle.pd_kinds.specs.Meaning.{Mapping, ThinDevice}
 use Rattle.pd_count.specs.Counted.{Counted}
 use Rattle.pd_answers.specs.Seen.{raised_time, seen_device, seen_pool, seen_shape, seen_snap, seen_time, timed_pool, timed_shape}
 use Rattle.pd_laid.specs.Shape.{ArePieces, IsShape, ShapeDevice, ThinShape, device_of, pool_of, uses_of}
@@ -16,7 +16,7 @@ use Rattle.pd_salvage.specs.declared.saved_shape.ShapedDevice.{ShapedDevice}
 use Rattle.pd_salvage.specs.SavedShape.{HeldShape, IsPartJoined, IsSavedShape, device_parts, held_shape, leaf_parts, runs_of_pieces, with_devices}
 use Rattle.pd_restore.specs.Overflowing.{HasCountedThrice}
 use Rattle.pd_repair.specs.Snaps.{is_twice, mappings_of_pieces, seen_shaped, snap_after, snapped_at}
-use Rattle.pd_repair.proofs.SeenLemmas.{device_snap, lawful_seen, snaps_seen}
+use Rattle.pd_repair.proofs.SeenLemmas.{device_snap, lawful_seen}
 
 -- a device of a shape with these leaves, seen by some data blocks
 abbrev pub seen_with : List ℕ → List (List Mapping) → ShapeDevice → ShapeDevice

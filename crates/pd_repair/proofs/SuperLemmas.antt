@@ -22,11 +22,13 @@ use Rattle.pd_laws.proofs.SoundLemmas.{tests_after_two}
 use Rattle.pd_laws.proofs.ThinTable.{super_sound}
 use Rattle.pd_repair.specs.declared.fault.RepairFault.{RepairFault}
 use Rattle.pd_repair.specs.declared.fault.RepairFault.TheVariants as f
+use Rattle.pd_restoring.specs.declared.made.MadeFault.{MadeFault}
+use Rattle.pd_restoring.specs.declared.made.MadeFault.TheVariants as made
 use Rattle.pd_salvage.specs.declared.fault.SalvageFault.{SalvageFault}
 use Rattle.pd_salvage.specs.declared.fault.SalvageFault.TheVariants as saving
-use Rattle.pd_restoring.specs.Made.{Content, IsMade, lacking, unbegun}
+use Rattle.pd_restoring.specs.Made.{Content, Ending, IsMade, ending_of, lacking, unbegun}
 use Rattle.pd_restoring.proofs.EndingLemmas.{resting}
-use Rattle.pd_repair.specs.Faults.{output_ending, salvage_fault}
+use Rattle.pd_repair.specs.Faults.{made_fault, output_ending, salvage_fault}
 use Rattle.pd_repair.proofs.BrokenLemmas.{any_reported, broken_reported, first_faults, missing_named, missing_reported, other_super}
 use Rattle.pd_repair.specs.Repaired.{BlamesOne, HasSuper, IsBrokenAt, IsFirst, IsOfFaults, IsRepairedAs, IsRepairedFromAs, IsSoundAt, IsSoundSuper, LacksSuper, NamesRules, ReadsFew}
 
@@ -98,6 +100,23 @@ pub none_blamed : (result : Result ThinFields RepairFault) (blocks old new outpu
     → MatchResult result (λ _. new ≡ old) (λ fault. BlamesOne fault old new output output)
 none_blamed (Ok fields) blocks old new output first same broken = same
 none_blamed (Err fault) blocks old new output first same broken = rw broken.is (same, refl)
+
+-- what was saved of what is told, and then seen
+pub told_seen : {M : Type 0} (see : M → M) (base : Image → M) (held : Option Image) (saved seen : M) → seen ≡ see saved → IfSome held (λ image. saved ≡ base image)
+    → IfSome held (λ image. seen ≡ see (base image))
+told_seen see base held saved seen is told = IfSome_then held told (λ image same. is ∙ ap see same)
+
+-- a fault of the writing ends it as it did
+made_ends : (fault : MadeFault) → output_ending {T = Unit {0}} (Err (made_fault fault)) ≡ ending_of (Err fault)
+made_ends made.Memory = refl
+made_ends made.Device = refl
+made_ends (made.NoRoom need blocks) = refl
+
+pub made_unwritten : (content : Content) (written : Result (Unit {0}) MadeFault) (result : Result (Unit {0}) RepairFault) (fault : MadeFault) (old new : DeviceState)
+    → written ≡ Err fault → result ≡ Err (made_fault fault) → IsMade content (ending_of written) old new → IsMade content (output_ending result) old new
+made_unwritten content written result fault old new was is done =
+    subst (λ (e : Ending). IsMade content e old new)
+    (ap ending_of was ∙ (sym (made_ends fault) ∙ ap (λ (r : Result (Unit {0}) RepairFault). output_ending r) (sym is))) done
 
 module _ {M : Type 0} (content : M → Content) (saved_from : ThinFields → Image → M) where
   -- what is saved of what is told

@@ -66,12 +66,7 @@ impl Thrice {
     }
 
     /// Counts so many blocks in a row so many times more.
-    pub fn add_run_times(
-        &mut self,
-        first: u64,
-        length: u64,
-        times: u32,
-    ) -> Result<(), AllocError>
+    pub fn add_run_times(&mut self, first: u64, length: u64, times: u32) -> Result<(), AllocError>
         requires within { first + length ≤ self.old.size }
         ensures size { OnOk result (self.new.size ≡ self.old.size) }
         ensures listed { (before : List ℕ) → HasCountedThrice self.old before

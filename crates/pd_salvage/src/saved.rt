@@ -95,7 +95,11 @@ impl Salvage {
         requires { IsSavedPool (pool_with self time devices.items) }
         ensures { result ≡ pool_with self time devices.items }
     {
-        let Salvage { head, devices: _, runs } = self;
+        let Salvage {
+            head,
+            devices: _,
+            runs,
+        } = self;
         Salvage {
             head: SavedHead { time, ..head },
             devices,

@@ -55,14 +55,8 @@ impl Task for NamedRepair<'_> {
         third: &mut C,
     ) -> Result<Outcome, Stop> {
         let s = named_super(alloc, input, &self.given, &self.named)?;
-        ended_of(repair_lost(
-            alloc,
-            self.shared,
-            input,
-            output,
-            &s.fields,
-            s.time,
-        ))
+        let written = repair_lost(alloc, self.shared, input, output, &s.fields, s.time);
+        ended_of(written)
     }
 }
 

@@ -1,7 +1,5 @@
-use Rattle.std.proofs.Common.{List, get_or, refl, take}
-use Rattle.pd_kinds.specs.Meaning.{Mapping}
+use Rattle.std.proofs.Common.{get_or, refl, take}
 use Rattle.pd_runs.specs.Places.{runs_from}
-use Rattle.pd_salvage.specs.declared.saved_shape.SavedPiece.{SavedPiece}
 use Rattle.pd_salvage.specs.SavedShape.{runs_of_pieces}
 use Rattle.pd_restore.specs.Overflowing.{IsRunIn}
 use Rattle.pd_restore.proofs.PlainDataLemmas.{all_rest}

@@ -1,5 +1,5 @@
-use Rattle.std.proofs.Common.{◌∷◌, sym, ap, ◌∙◌, arith}
-use Rattle.pd_repair.specs.Snaps.{is_twice, snap_after}
+use Rattle.std.proofs.Common.{sym, ◌∙◌, arith}
+use Rattle.pd_repair.specs.Snaps.{is_twice}
 use Rattle.pd_repair.proofs.SnapLemmas.{older, shared_run, unshared}
 use Rattle.pd_repair.proofs.snaps.later_of.Goals as goal
 

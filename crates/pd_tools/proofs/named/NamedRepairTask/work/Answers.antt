@@ -14,15 +14,15 @@ returns-clause-works g c others notes first fresh was _ =
     let self = c.args.self.now in
     rw c.ended_of.ensures
     (named_works self.shared (given_as self.given) (named_as self.named) self.from.now self.to.now (record others { input = first.input; output = first.output; third = first.third })
-    (record others { notes = notes; input = g.A.Device.state c.repair_lost.new.input; output = g.B.Device.state c.repair_lost.new.output; third = g.C.Device.state c.args.third.now })
+    (record others { notes = notes; input = g.A.Device.state c.repair_lost-written.new.input; output = g.B.Device.state c.repair_lost-written.new.output; third = g.C.Device.state c.args.third.now })
     (devices (g.A.Device.state c.named_super.new.input) (g.B.Device.state c.args.output.now) (g.C.Device.state c.args.third.now)) fresh
     (record {
       input = still_opened was.input kept.access kept.path (record { held = kept.held; history = kept.history }) c.in_ok-s.ensures.faults;
       output = was.output;
       third = was.third;
     })
-    (g.met.B.Device.measured c.args.output.now) c.repair_lost.ensures.place c.in_ok-s.s.fields c.in_ok-s.s.time (rw kept.held c.in_ok-s.ensures.named) (rw kept.held c.in_ok-s.ensures.time)
-    c.repair_lost.result c.repair_lost.ensures.repaired c.repair_lost.ensures.sound c.repair_lost.ensures.causes)
+    (g.met.B.Device.measured c.args.output.now) c.repair_lost-written.ensures.place c.in_ok-s.s.fields c.in_ok-s.s.time (rw kept.held c.in_ok-s.ensures.named) (rw kept.held c.in_ok-s.ensures.time)
+    c.repair_lost-written.result c.repair_lost-written.ensures.repaired c.repair_lost-written.ensures.sound c.repair_lost-written.ensures.causes)
 
 pub returns-in_err-s-clause-works : goal.returns-in_err-s-clause-works
 returns-in_err-s-clause-works g c others notes first fresh was _ =
