@@ -1,7 +1,6 @@
 -- No device that is saved from named roots was snapped after the pool's time, unless that is the greatest one of a mapping.
 use Rattle.std.proofs.Common.{◌≡◌, ℕ, ◌/◌, ◌^◌, ◌<◌, ◌≤◌, max, min, not, List, [], ◌∷◌, map, filter, Option, Some, None, unwrap_or, arith}
 use Rattle.std.specs.List.{AllByRecursion, flat_map}
-use Rattle.std.specs.Prelude.{fold}
 use Rattle.std.proofs.lemmas.List.Elements.{All-from_recursion}
 use Rattle.pd_kinds.specs.Edge.{is_outside}
 use Rattle.pd_kinds.specs.Image.{IsImage}
@@ -46,7 +45,7 @@ module _ (image : Image) (given : GivenSuper) (named : NamedRoots) (is : IsImage
       let rest = flat_map times_of (map (salvaged_device timeless image) tops) in
       let mine = first_of_all (λ x. x ≤ latest) (times_of first) rest below in (
         raised given.transaction latest (saved_time timeless image) (value_of_key (salvaged_entries 24 timeless.meta_map.blocks image timeless.details_root) top.key) fit.transaction_fits
-        (time_fits image given named is fit) mine.1.0,
+            (time_fits image given named is fit) mine.1.0,
         snaps_within tops (rest_of_all (λ x. x ≤ latest) (times_of first) rest below),
       )
 

@@ -12,7 +12,7 @@ use Rattle.pd_shapes.specs.PoolText.{IsLawfulShape}
 use Rattle.pd_shapes.specs.SharedNeed.{LeafCount, leaves_of_pieces, own_mappings, shape_data, shape_need}
 use Rattle.pd_spells.specs.Lawful.{AreDevices, AreMappings, IsLawfulPool}
 use Rattle.pd_spells.specs.ThinNeed.{mapped_data, thin_need}
-use Rattle.pd_answers.specs.Seen.{greatest_time, is_shared, raised_time, seen_device, seen_pool, seen_shape, seen_shape_device, seen_snap, seen_time}
+use Rattle.pd_answers.specs.Seen.{is_shared, seen_device, seen_pool, seen_shape, seen_shape_device, seen_snap, seen_time}
 use Rattle.pd_kept.proofs.BoundLemmas.{Below, below_greatest, greatest_below}
 use Rattle.pd_exact.specs.Search.{state_of}
 

@@ -1,11 +1,9 @@
 -- In what is made of a search, and of named roots, sharing is seen.
-use Rattle.std.proofs.Common.{◌≡◌, ℕ, ◌≤◌, max, min, Bool, true, false, List, [], ◌∷◌, IfSome, sym, ap, subst, arith}
+use Rattle.std.proofs.Common.{◌≡◌, ℕ, ◌≤◌, max, min, Bool, true, false, List, [], ◌∷◌, sym, ap, subst, arith}
 use Rattle.std.specs.List.{AllByRecursion, flat_map}
 use Rattle.std.specs.Prelude.{fold}
 use Rattle.std.proofs.lemmas.List.Elements.{All-from_recursion}
 use Rattle.std.proofs.lemmas.Option.{IfSome_then}
-use Rattle.pd_kinds.specs.Crash.{HoldsSynced}
-use Rattle.pd_kinds.specs.Image.{IsImage}
 use Rattle.pd_kinds.specs.Meaning.{ThinDevice, ThinPool, thin_meaning}
 use Rattle.pd_laid.specs.FoundRoots.{AreBest, FoundRoots, devices_below, found_pool, lost_graph, roots_at, times_of}
 use Rattle.pd_spells.specs.Lawful.{IsLawfulPool}
@@ -15,7 +13,7 @@ use Rattle.pd_answers.specs.NamedRoots.{GivenSuper, NamedRoots}
 use Rattle.pd_answers.specs.Seen.{greatest_time, seen_pool}
 use Rattle.pd_kept.proofs.BoundLemmas.{Below, below_greatest, first_of_all, rest_of_all}
 use Rattle.pd_exact.specs.NamedRoots.{HoldsNamed, IsSavedFrom}
-use Rattle.pd_exact.specs.Search.{HoldsBest, IsOfBest, IsPoolOf, IsShapeOf, OfRoots}
+use Rattle.pd_exact.specs.Search.{HoldsBest, IsPoolOf, IsShapeOf, OfRoots}
 use Rattle.pd_exact.specs.Sharing.{IsTimely, SeesSharing, SharingIsSeen}
 use Rattle.pd_exact.proofs.Restored.{Image}
 use Rattle.pd_exact.proofs.SeenSharing.{pool_stays, sees_sharing}

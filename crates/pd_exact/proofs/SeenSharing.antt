@@ -1,6 +1,6 @@
 -- Sharing is seen in each pool that was made so, and a lawful pool in which it is seen stays as it is.
-use Rattle.std.proofs.Common.{◌≡◌, inl, inr, ℕ, ◌+◌, ◌<◌, ◌≤◌, max, min, Bool, true, nat_eq, nat_lt, not, ◌&&◌, List, [], ◌∷◌, map, filter, refl, sym, ap, ap₂, subst, ◌∙◌, arith}
-use Rattle.std.specs.List.{All, AllByRecursion, Contains, count_by}
+use Rattle.std.proofs.Common.{◌≡◌, inl, inr, ℕ, ◌+◌, ◌<◌, ◌≤◌, max, min, Bool, true, not, ◌&&◌, List, [], ◌∷◌, map, filter, refl, sym, ap, ap₂, subst, ◌∙◌, arith}
+use Rattle.std.specs.List.{AllByRecursion, Contains, count_by}
 use Rattle.std.specs.Prelude.{fold}
 use Rattle.std.proofs.lemmas.Bool.{and_from, and_parts, both_ways, cases_Bool, eq-eqb, eqb-true, lt-ltb, ltb-true, not-true}
 use Rattle.std.proofs.lemmas.List.Elements.{recursion_from_All}
@@ -10,7 +10,7 @@ use Rattle.pd_spells.specs.ThinNeed.{mapped_data}
 use Rattle.pd_answers.specs.Seen.{greatest_time, is_shared, seen_device, seen_pool, seen_snap, seen_time}
 use Rattle.pd_kept.proofs.BoundLemmas.{Below, below_greatest, greatest_below}
 use Rattle.pd_exact.specs.Sharing.{IsShared, IsTimely, MappingPlace, SharingIsSeen}
-use Rattle.pd_exact.proofs.SpotLemmas.{Has, IsMapped, Spot, all_has, among, count_of_spots, has, has_kept, has_mapped, has_spot, in_parts, is_at, is_mapped, leads_to, one_of_all, passing, spot, spots, stands_at, two_counted}
+use Rattle.pd_exact.proofs.SpotLemmas.{Has, Spot, all_has, among, count_of_spots, has, has_kept, has_mapped, has_spot, in_parts, is_at, is_mapped, leads_to, one_of_all, passing, spot, spots, stands_at, two_counted}
 
 -- the time of a snap is above that of each shared mapping
 abbrev past : Mapping → ℕ
