@@ -8,7 +8,6 @@ use Rattle.pd_kinds.specs.Crash.{IsUntouched}
 use Rattle.pd_kinds.specs.Image.{HasBytes}
 use Rattle.pd_kinds.specs.Layout.{graph_of}
 use Rattle.pd_kinds.specs.Limits.{room_of}
-use Rattle.pd_kinds.specs.ThinSuper.{ThinFields}
 use Rattle.pd_spells.specs.Lines.{no_room_line}
 use Rattle.pd_laid.specs.FoundRoots.{AreBest, FoundRoots, IsFound, are_fitting, found_pool, lost_graph}
 use Rattle.pd_laid.specs.Salvage.{salvage_from}
@@ -32,6 +31,7 @@ use Rattle.pd_tools.specs.declared.stop.Stop.{Stop}
 use Rattle.pd_tools.specs.declared.stop.Stop.TheVariants.{Device, Memory}
 use Rattle.pd_tools.specs.Ending.{repair_ended}
 use Rattle.pd_tools.specs.Opened.{AreOpened, Devices, devices_of}
+use Rattle.pd_kinds.specs.ThinSuper.{ThinFields}
 use Rattle.pd_tools.specs.Saved.{saved_by, saved_content, seen_by}
 use Rattle.pd_tools.specs.Search.{terms_of_search}
 use Rattle.pd_tools.specs.Stop.{stop_status}
