@@ -1,6 +1,5 @@
-ghost use Rattle.std.specs.Prelude.{◌≡◌, ◌≤◌, IfOk};
-ghost use Rattle.pd_image.specs.Device.{IsAttached, IsWritable, OnlyReads};
-ghost use Rattle.pd_files.specs.FileDevice.{file_device_state};
+ghost use Rattle.std.specs.Prelude.{◌≡◌, ◌≤◌};
+ghost use Rattle.pd_image.specs.Device.{IsAttached, OnlyReads};
 
 use crate::objects::{NEVER, device_of, leaves};
 use pd_files::{FileDevice, OpenFiles, StdSink, StdSource};
@@ -140,7 +139,13 @@ fn memory_sink_fails_where_it_is_set_to(rt: HostRuntime) -> Result<(), Fail> {
 /// Writes block 1 of a file of two blocks, and answers block 0, or none where a call failed or there aren't two.
 fn change_file(rt: &HostRuntime, path: &str) -> Result<Option<Block>, Fail> {
     let files = OpenFiles::new(rt)?;
-    let mut device = Box::new(rt.alloc(), FileDevice::new(&files))?;
+    change_device(&mut FileDevice::new(&files), path)
+}
+
+/// The same, over a device that isn't attached yet. What a file's device means is known here as that of any device.
+fn change_device<D: Device>(device: &mut D, path: &str) -> Result<Option<Block>, Fail>
+    requires { (D.state device.old).access ≡ 0 }
+{
     device.attach(path, true)?;
     if device.blocks() != 2 {
         return Ok(None);
@@ -218,15 +223,25 @@ fn expect_first_alone<D: Device>(rt: &impl Abort, device: &mut D)
 
 #[test]
 fn file_device_fails_past_the_end_of_a_file_cut_short(rt: HostRuntime) -> Result<(), Fail> {
-    let image = [1; 2 * 4096];
-    write_file(&rt, "cut_short.img", &image)?;
+    write_file(&rt, "cut_short.img", &[1; 2 * BLOCK_SIZE])?;
     let files = OpenFiles::new(&rt)?;
-    let mut device = Box::new(rt.alloc(), FileDevice::new(&files))?;
-    device.attach("cut_short.img", false)?;
-    assert!(rt; device.blocks() == 2);
-    write_file(&rt, "cut_short.img", &image[..4097])?;
-    expect_first_alone(&rt, &mut *device);
+    expect_cut_short(&rt, &rt, &mut FileDevice::new(&files))?;
     remove_file(&rt, "cut_short.img")
+}
+
+/// The file is cut once the device is attached.
+fn expect_cut_short<D: Device>(
+    stop: &impl Abort,
+    rt: &HostRuntime,
+    device: &mut D,
+) -> Result<(), Fail>
+    requires { (D.state device.old).access ≡ 0 }
+{
+    device.attach("cut_short.img", false)?;
+    assert!(stop; device.blocks() == 2);
+    write_file(rt, "cut_short.img", &[1; BLOCK_SIZE + 1])?;
+    expect_first_alone(stop, device);
+    Ok(())
 }
 
 /// The numbers of the blocks of a file that has three runs, the last one short.
@@ -255,20 +270,6 @@ fn numbered(alloc: Global, blocks: u8) -> Result<Vec<u8>, AllocError> {
 fn write_numbered(rt: &HostRuntime, path: &str, blocks: u8) -> Result<(), Fail> {
     let image = numbered(rt.alloc(), blocks)?;
     write_file(rt, path, image.as_slice())
-}
-
-/// A device over a new file of 35 such blocks.
-fn numbered_device<'a>(
-    rt: &HostRuntime,
-    files: &'a OpenFiles<'a, HostRuntime>,
-    path: &str,
-) -> Result<Box<FileDevice<'a, HostRuntime>>, Fail>
-    ensures { IfOk result (λ device. IsWritable (file_device_state device.value)) }
-{
-    write_numbered(rt, path, 35)?;
-    let mut device = Box::new(rt.alloc(), FileDevice::new(files))?;
-    device.attach(path, true)?;
-    Ok(device)
 }
 
 /// Whether these blocks are there and each is full of its own number, as they are read in this order.
@@ -316,32 +317,42 @@ const ANY_ORDER: &[Row] = &[
 
 #[test]
 fn file_device_reads_in_any_order(rt: HostRuntime) -> Result<(), Fail> {
+    write_numbered(&rt, "any_order.img", 35)?;
     let files = OpenFiles::new(&rt)?;
-    let mut device = numbered_device(&rt, &files, "any_order.img")?;
-    assert!(rt; device.blocks() == 35);
-    expect_rows(&rt, &mut *device, ANY_ORDER);
+    expect_any_order(&rt, &mut FileDevice::new(&files))?;
     remove_file(&rt, "any_order.img")
 }
 
-/// Block 6 is changed within a run that is read, and then changed back.
-fn expect_written<D: Device>(rt: &impl Abort, device: &mut D)
-    requires writable { IsWritable (D.state device.old) }
-    requires blocks { 35 ≤ (D.state device.old).blocks }
+/// All rows are read.
+fn expect_any_order<D: Device>(rt: &impl Abort, device: &mut D) -> Result<(), Fail>
+    requires { (D.state device.old).access ≡ 0 }
 {
+    device.attach("any_order.img", false)?;
+    assert!(rt; device.blocks() == 35);
+    expect_rows(rt, device, ANY_ORDER);
+    Ok(())
+}
+
+/// Block 6 is changed within a run that is read, and then changed back.
+fn expect_written<D: Device>(rt: &impl Abort, device: &mut D) -> Result<(), Fail>
+    requires { (D.state device.old).access ≡ 0 }
+{
+    device.attach("written_run.img", true)?;
+    assert!(rt; device.blocks() == 35);
     expect_rows(rt, device, &[(&[2, 3, 4], true)]);
     assert!(rt; device.write(6, &Block([9; BLOCK_SIZE])).is_ok());
     expect_rows(rt, device, &[(&[5], true), (&[6], false), (&[7, 8], true)]);
     assert!(rt; device.write(6, &Block([6; BLOCK_SIZE])).is_ok());
     assert!(rt; device.sync().is_ok());
     expect_rows(rt, device, &[(&[5, 6, 7, 8], true)]);
+    Ok(())
 }
 
 #[test]
 fn file_device_reads_what_was_written_in_a_run(rt: HostRuntime) -> Result<(), Fail> {
+    write_numbered(&rt, "written_run.img", 35)?;
     let files = OpenFiles::new(&rt)?;
-    let mut device = numbered_device(&rt, &files, "written_run.img")?;
-    assert!(rt; device.blocks() == 35);
-    expect_written(&rt, &mut *device);
+    expect_written(&rt, &mut FileDevice::new(&files))?;
     remove_file(&rt, "written_run.img")
 }
 
@@ -357,26 +368,46 @@ const CUT_SHORT: &[Row] = &[
 fn file_device_fails_block_by_block_past_the_end_of_a_run_cut_short(
     rt: HostRuntime,
 ) -> Result<(), Fail> {
+    write_numbered(&rt, "cut_run.img", 35)?;
     let files = OpenFiles::new(&rt)?;
-    let mut device = numbered_device(&rt, &files, "cut_run.img")?;
-    assert!(rt; has_numbers(&mut *device, &[0, 1]));
-    write_numbered(&rt, "cut_run.img", 18)?;
-    expect_rows(&rt, &mut *device, CUT_SHORT);
+    expect_cut_run(&rt, &rt, &mut FileDevice::new(&files))?;
     remove_file(&rt, "cut_run.img")
+}
+
+/// The file is cut once a run of it was read.
+fn expect_cut_run<D: Device>(
+    stop: &impl Abort,
+    rt: &HostRuntime,
+    device: &mut D,
+) -> Result<(), Fail>
+    requires { (D.state device.old).access ≡ 0 }
+{
+    device.attach("cut_run.img", false)?;
+    assert!(stop; has_numbers(device, &[0, 1]));
+    write_numbered(rt, "cut_run.img", 18)?;
+    expect_rows(stop, device, CUT_SHORT);
+    Ok(())
 }
 
 #[test]
 fn std_source_gives_a_file(rt: HostRuntime) -> Result<(), Fail> {
     write_file(&rt, "source.txt", b"abc")?;
     let files = OpenFiles::new(&rt)?;
-    let mut source = Box::new(rt.alloc(), StdSource::new(&files))?;
+    expect_abc(&rt, &mut StdSource::new(&files))?;
+    remove_file(&rt, "source.txt")
+}
+
+/// The text is `abc`.
+fn expect_abc<S: Source>(rt: &impl Abort, source: &mut S) -> Result<(), Fail>
+    requires { (S.state source.old).access ≡ 0 }
+{
     source.attach("source.txt")?;
     let mut room = [0; 2];
     assert!(rt; source.take(&mut room) == Ok(2));
     assert!(rt; source.take(&mut room) == Ok(1));
     assert!(rt; source.take(&mut room) == Ok(0));
     assert!(rt; room == *b"cb");
-    remove_file(&rt, "source.txt")
+    Ok(())
 }
 
 #[test]
