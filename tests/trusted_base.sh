@@ -5,9 +5,10 @@
 #   tests/trusted_base.sh print      prints a row of the list for each file, with what its first lines say
 #
 # A promise rests on the files that its clause imports, on those that these import, and so on. The promises are the
-# clause of run_tool, and the laws of pd_exact. The clause speaks of any device, source and sink: so their traits say what it
-# means, with their ghost members, and are roots too. So are the constants that definitions name. A file of definitions of the
-# list has the mark in its first line, and no other file has it. The numbers in the document's text are compared too.
+# clause of run_tool, and the laws of pd_laws_answers. The clause speaks of any device, source and sink: so their traits say what it
+# means, with their ghost members, and are roots too. So are the constants that definitions name, and the types of requests, of
+# tools and of words that code and definitions share. A file of definitions of the list has the mark in its first line, and no
+# other file has it. The numbers in the document's text are compared too.
 set -eu
 cd "$(dirname "$0")/.."
 
@@ -15,7 +16,8 @@ mark='-- Trusted base.'
 list=docs/TRUSTED_BASE.md
 traits='crates/pd_image/src/device.rt crates/pd_image/src/source.rt crates/pd_image/src/sink.rt'
 constants='crates/pd_kinds/src/limits.rt'
-top="crates/pd_answers/specs/Terms.antt crates/pd_answers/specs/Promises.antt crates/pd_answers/specs/Words.antt $traits $constants"
+requests='crates/pd_answers/src/request.rt crates/pd_answers/src/tool.rt'
+top="crates/pd_answers/specs/Terms.antt crates/pd_answers/specs/Promises.antt crates/pd_answers/specs/Words.antt $traits $constants $requests"
 
 # These files of definitions, and those that they import; or, of a source file, those that it imports. An import that
 # names no file is of the toolchain, or a type that the code declares.
@@ -60,9 +62,9 @@ trap 'rm -rf "$tmp"' EXIT
 # shellcheck disable=SC2086
 closure $top >"$tmp/headline"
 # shellcheck disable=SC2046,SC2086
-closure $top $(find crates/pd_exact/src -name '*.rt') >"$tmp/all"
+closure $top $(find crates/pd_laws_answers/src -name '*.rt') >"$tmp/all"
 # shellcheck disable=SC2086
-printf '%s\n' $traits $constants >"$tmp/sources"
+printf '%s\n' $traits $constants $requests >"$tmp/sources"
 cat "$tmp/all" "$tmp/sources" | sort >"$tmp/rows"
 
 if [ "${1-}" = print ]; then

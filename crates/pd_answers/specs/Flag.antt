@@ -6,12 +6,11 @@ use Rattle.std.specs.List.{AllByRecursion}
 use Rattle.pd_kinds.specs.declared.kind.Flagged.{Flagged}
 use Rattle.pd_kinds.specs.declared.kind.Flagged.TheVariants.{Pool, Cache}
 use Rattle.pd_kinds.specs.declared.kind.Passing.{Passing}
-use Rattle.pd_kinds.specs.Field.{le, put}
+use Rattle.pd_kinds.specs.Field.{le, put, sealed}
 use Rattle.pd_kinds.specs.Flagged.{kind_of}
 use Rattle.pd_kinds.specs.Super.{salt_of}
-use Rattle.pd_kinds.specs.Checksum.{sealed}
 use Rattle.pd_kinds.specs.Graph.{block_at}
-use Rattle.pd_kinds.specs.Report.{Reported, passes}
+use Rattle.pd_kinds.specs.Rule.{Reported, passes}
 use Rattle.pd_kinds.specs.Objects.{DeviceState}
 use Rattle.pd_kinds.specs.Crash.{LeavesOnly, HasNoSuper, Chance, HoldsSynced, IsUntouched, StillTells}
 

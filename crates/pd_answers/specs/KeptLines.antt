@@ -5,12 +5,11 @@ use Rattle.std.specs.List.{find, flat_map, range_with_len}
 use Rattle.std.specs.Option.{option_map}
 use Rattle.pd_kinds.specs.Graph.{block_at}
 use Rattle.pd_kinds.specs.Meaning.{ThinDevice}
-use Rattle.pd_kinds.specs.ThinSuper.{ThinFields, thin_fields}
+use Rattle.pd_kinds.specs.ThinFormat.{ThinFields, thin_fields}
 use Rattle.pd_kinds.specs.Trees.{value_of_key}
-use Rattle.pd_spells.specs.ThinNeed.{thin_need}
-use Rattle.pd_laid.specs.Salvage.{salvage_from, salvaged_entries}
-use Rattle.pd_shapes.specs.SavedShape.{saved_shape_from}
-use Rattle.pd_shapes.specs.SharedNeed.{shape_need}
+use Rattle.pd_grammar.specs.Need.{thin_need}
+use Rattle.pd_laid.specs.Salvage.{salvage_from, salvaged_entries, saved_shape_from}
+use Rattle.pd_laid.specs.PoolText.{shape_need}
 
 -- how many mappings the details of a device say that it has, where they are found
 abbrev pub found_mapped : ThinFields → List (List ℕ) → ℕ → Option ℕ

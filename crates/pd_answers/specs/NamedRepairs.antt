@@ -1,22 +1,86 @@
 -- Trusted base.
 -- The terms of a repair from roots that are named, and of what a repair without a superblock would keep.
-use Rattle.std.specs.Prelude.{◌≡◌, ℕ, Bool, true, false, List, [], ◌∷◌, ◌++◌, Option, Some, None, IfSome}
-use Rattle.std.specs.List.{flat_map}
-use Rattle.pd_kinds.specs.Meaning.{ThinPool}
-use Rattle.pd_laid.specs.FoundRoots.{FoundRoots, lost_graph}
-use Rattle.pd_laid.specs.Salvage.{salvage_from}
+-- Roots that are named where the superblock is lost, or isn't to be used: from which superblock is saved what stands below them.
+-- The states of a pool whose superblock is lost, to choose from: for each mapping tree that has one, the best details tree that
+-- fits it.
+use Rattle.std.specs.Prelude.{ℕ, ◌+◌, ◌-◌, ◌^◌, max, min, Bool, if◌then◌else◌, List, fold, is_none, [], ◌∷◌, ◌++◌, length, map, filter, take, codes, decimal, Option, Some, None, ◌≡◌, true, false, IfSome}
+use Rattle.std.specs.List.{list_any, flat_map, filter_map, range_with_len}
+use Rattle.pd_kinds.specs.Meaning.{ThinDevice, ThinPool}
+use Rattle.pd_kinds.specs.ThinFormat.{ThinFields}
+use Rattle.pd_kinds.specs.Graph.{Graph}
+use Rattle.pd_laid.specs.FoundRoots.{lost_graph, times_of, FoundRoots, are_fitting, devices_below, is_better, roots_at}
+use Rattle.pd_laid.specs.Salvage.{salvage_from, saved_shape_from}
 use Rattle.pd_laid.specs.Shape.{ThinShape}
-use Rattle.pd_shapes.specs.SavedShape.{saved_shape_from}
-use Rattle.pd_answers.specs.Answer.{Answer, reading}
-use Rattle.pd_answers.specs.KeptLines.{told_from, told_text}
-use Rattle.pd_answers.specs.NamedRoots.{GivenSuper, NamedRoots, named_fields, pool_time, timeless_fields}
-use Rattle.pd_answers.specs.Reads.{any_reads}
+use Rattle.pd_answers.specs.declared.request.GivenSuper.{GivenSuper}
+use Rattle.pd_answers.specs.declared.request.NamedRoots.{NamedRoots}
+use Rattle.pd_answers.specs.KeptLines.{found_mapped, told_from, told_text}
+use Rattle.pd_answers.specs.Searches.{found_fields, raised_time, no_roots_line, seen, timed_pool, timed_shape}
+use Rattle.pd_answers.specs.Terms.{Answer, reading, any_reads, Terms, unnamed, nothing}
 use Rattle.pd_answers.specs.Repairs.{Saved, repair_by}
-use Rattle.pd_answers.specs.SearchLines.{no_roots_line}
-use Rattle.pd_answers.specs.Searches.{found_fields}
-use Rattle.pd_answers.specs.Seen.{seen, timed_pool, timed_shape}
-use Rattle.pd_answers.specs.States.{state_line, states}
-use Rattle.pd_answers.specs.Terms.{Terms, unnamed, nothing}
+
+-- whether a device that is saved has lost its details
+abbrev pub lacks_details : ThinFields → List (List ℕ) → Bool
+lacks_details fields image = list_any (λ (d : ThinDevice). is_none (found_mapped fields image d.id)) (salvage_from fields image).devices
+
+-- the latest time of what is saved: of a mapping, and at which a device was made or last shared
+abbrev pub latest_time : ThinFields → List (List ℕ) → ℕ
+latest_time fields image = fold max 0 (flat_map times_of (salvage_from fields image).devices)
+
+-- The time that devices get which have lost their details, as created and as snapped: one more than the latest time of what is saved,
+-- as a mapping of that time may be shared. It has 32 bits. Where no details are lost it is the latest time
+unfoldable pub saved_time : ThinFields → List (List ℕ) → ℕ
+saved_time fields image = if lacks_details fields image then min (latest_time fields image + 1) (2 ^ 32 - 1) else latest_time fields image
+
+-- the time of a pool that is saved by a superblock without one: the same, but that it isn't raised past the greatest time of a mapping
+unfoldable pub pool_time : ThinFields → List (List ℕ) → ℕ
+pool_time fields image = raised_time (latest_time fields image) (saved_time fields image)
+
+-- the superblock of named roots, without a time and with that of lost details
+abbrev pub timeless_fields : List (List ℕ) → GivenSuper → NamedRoots → ThinFields
+timeless_fields image given named =
+    found_fields (lost_graph image given.blocks) given.transaction given.block_size
+    (record { top = named.top; details = named.details; mappings = 0; time = 0; transaction = 0; times = 0 })
+
+unfoldable pub named_fields : List (List ℕ) → GivenSuper → NamedRoots → ThinFields
+named_fields image given named =
+    let fields = timeless_fields image given named in
+    record fields { time = saved_time fields image }
+
+-- the better ones of some roots and of the best of others, if there are any
+abbrev pub better_of_two : FoundRoots → Option FoundRoots → FoundRoots
+better_of_two roots None = roots
+better_of_two roots (Some best) = if is_better best roots then best else roots
+
+-- the best of some roots
+abbrev pub best_of : List FoundRoots → Option FoundRoots
+best_of [] = None
+best_of (roots ∷ others) = Some (better_of_two roots (best_of others))
+
+-- the best of the roots whose mapping tree is this one, among all details trees that fit it
+unfoldable pub best_for : Graph → List (List ℕ) → ℕ → Option FoundRoots
+best_for graph image top = best_of (map (roots_at graph image top) (filter (are_fitting graph image top) (range_with_len 0 graph.nr)))
+
+-- some roots in their place among others, the better ones first
+abbrev pub placed : FoundRoots → List FoundRoots → List FoundRoots
+placed roots [] = roots ∷ []
+placed roots (first ∷ others) = if is_better roots first then roots ∷ first ∷ others else first ∷ placed roots others
+
+-- roots in order, the best first
+abbrev pub in_order : List FoundRoots → List FoundRoots
+in_order [] = []
+in_order (roots ∷ others) = placed roots (in_order others)
+
+-- the states to choose from: the 100 best ones, in order
+unfoldable pub states : Graph → List (List ℕ) → List FoundRoots
+states graph image = take 100 (in_order (filter_map (best_for graph image) (range_with_len 0 graph.nr)))
+
+-- the line of a state: its roots, and what stands below them
+abbrev pub state_line : Graph → List (List ℕ) → FoundRoots → List ℕ
+state_line graph image roots =
+    codes "roots " ++ (decimal roots.top ++ (codes " " ++ (decimal roots.details
+    ++ (codes " devices " ++ (decimal (length (devices_below graph image roots.top roots.details))
+    ++ (codes " mappings " ++ (decimal roots.mappings ++ (codes " transaction " ++ (decimal roots.transaction
+    ++ (codes " time " ++ (decimal roots.time ++ (10 ∷ []))))))))))))
 
 -- what stands below named roots, with the leaves that its devices share or without
 abbrev pub named_pool : List (List ℕ) → GivenSuper → NamedRoots → ThinPool

@@ -8,24 +8,22 @@ use Rattle.pd_kinds.specs.declared.kind.Passing.TheVariants.{Nothing, Leaks}
 use Rattle.pd_kinds.specs.declared.kind.Stage.{Stage}
 use Rattle.pd_kinds.specs.declared.kind.Stage.TheVariants.{Super, Walk, Order, Whole, Counts}
 use Rattle.pd_kinds.specs.Flagged.{kind_of}
-use Rattle.pd_kinds.specs.Report.{Reported, passes, report_of}
+use Rattle.pd_kinds.specs.Rule.{Reported, passes, report_of}
 use Rattle.pd_kinds.specs.Stages.{faults, CanWantMemory}
-use Rattle.pd_spells.specs.Lines.{reported_lines, usage_line}
-use Rattle.pd_answers.specs.Requests as request
-use Rattle.pd_answers.specs.QueryLines.{Asked, asked_kind, asked_stage, asked_text}
-use Rattle.pd_answers.specs.Generated.{generated_text}
+use Rattle.pd_grammar.specs.Lines.{reported_lines, usage_line}
+use Rattle.pd_answers.specs.declared.request.Asked.{Asked}
+use Rattle.pd_answers.specs.Requests.{Request}
+use Rattle.pd_answers.specs.QueryLines.{asked_kind, asked_stage, asked_text}
+use Rattle.pd_answers.specs.Rehearsals.{generated_text, rehearse}
 use Rattle.pd_answers.specs.Flag.{LeavesCleared}
-use Rattle.pd_answers.specs.Answer.{Answer, reading, writing}
-use Rattle.pd_answers.specs.Reads.{few_reads, any_reads}
-use Rattle.pd_answers.specs.Terms.{Terms, unnamed, nothing}
+use Rattle.pd_answers.specs.Terms.{Answer, reading, writing, few_reads, any_reads, Terms, unnamed, nothing}
 use Rattle.pd_answers.specs.Restores.{restore}
-use Rattle.pd_answers.specs.Repairs.{repair}
+use Rattle.pd_answers.specs.Repairs.{repair, repair_cache}
 use Rattle.pd_answers.specs.Searches.{search}
 use Rattle.pd_answers.specs.NamedRepairs.{repair_named, dry_search}
-use Rattle.pd_answers.specs.CacheRepairs.{repair_cache}
-use Rattle.pd_answers.specs.Rehearsals.{rehearse}
 use Rattle.pd_answers.specs.Writebacks.{writeback}
 use Rattle.pd_answers.specs.Shrinks.{shrink}
+use Rattle.pd_answers.specs.declared.request.Request.TheVariants as request
 
 -- no request
 abbrev pub refused : Terms
@@ -129,19 +127,19 @@ generate number file = record {
 }
 
 -- the terms of a request
-abbrev pub terms_of : Option request.Request → Terms
+abbrev pub terms_of : Option Request → Terms
 terms_of None = refused
-terms_of (Some (request.check kind until path)) = check kind until Nothing path
-terms_of (Some (request.passing_check kind path)) = check kind Counts Leaks path
-terms_of (Some (request.check_and_clear flagged passing path)) = check_and_clear flagged passing path
-terms_of (Some (request.query asked file path)) = query asked file path
-terms_of (Some (request.restore kind version file path)) = restore kind version file path
-terms_of (Some (request.repair shared from to)) = repair shared from to
-terms_of (Some (request.search shared from to transaction block_size blocks)) = search shared from to transaction block_size blocks
-terms_of (Some (request.repair_named shared from to given named)) = repair_named shared from to given named
-terms_of (Some (request.dry_search path given named)) = dry_search path given named
-terms_of (Some (request.repair_cache version from to)) = repair_cache version from to
-terms_of (Some (request.generate number file)) = generate number file
-terms_of (Some (request.rehearse number path)) = rehearse number path
-terms_of (Some (request.writeback metadata fast origin)) = writeback metadata fast origin
-terms_of (Some (request.shrink shared input output pool blocks)) = shrink shared input output pool blocks
+terms_of (Some (request.Check kind until path)) = check kind until Nothing path
+terms_of (Some (request.PassingCheck kind path)) = check kind Counts Leaks path
+terms_of (Some (request.CheckAndClear flagged passing path)) = check_and_clear flagged passing path
+terms_of (Some (request.Query asked file path)) = query asked file path
+terms_of (Some (request.Restore kind version file path)) = restore kind version file path
+terms_of (Some (request.Repair shared from to)) = repair shared from to
+terms_of (Some (request.Search shared from to given)) = search shared from to given.transaction given.block_size given.blocks
+terms_of (Some (request.RepairNamed shared from to given named)) = repair_named shared from to given named
+terms_of (Some (request.DrySearch path given named)) = dry_search path given named
+terms_of (Some (request.RepairCache version from to)) = repair_cache version from to
+terms_of (Some (request.Generate number file)) = generate number file
+terms_of (Some (request.Rehearse number path)) = rehearse number path
+terms_of (Some (request.Writeback metadata fast origin)) = writeback metadata fast origin
+terms_of (Some (request.Shrink shared input output pool blocks)) = shrink shared input output pool blocks

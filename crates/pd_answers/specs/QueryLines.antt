@@ -7,11 +7,13 @@ use Rattle.pd_kinds.specs.declared.kind.Kind.TheVariants.{Thin, Cache, Era}
 use Rattle.pd_kinds.specs.declared.kind.Stage.{Stage}
 use Rattle.pd_kinds.specs.declared.kind.Stage.TheVariants.{Super, Whole}
 use Rattle.pd_kinds.specs.Meaning.{Mapping, ThinDevice, ThinPool, EraMeaning, thin_meaning, cache_meaning, era_meaning}
-use Rattle.pd_spells.specs.ThinText.{text_of_pool}
-use Rattle.pd_spells.specs.CacheText.{text_of_cache}
-use Rattle.pd_spells.specs.EraText.{text_of_era}
-use Rattle.pd_shapes.specs.SharedText.{text_of_shape}
-use Rattle.pd_shapes.specs.ImageShape.{image_shape}
+use Rattle.pd_grammar.specs.ThinText.{text_of_pool}
+use Rattle.pd_grammar.specs.CacheText.{text_of_cache}
+use Rattle.pd_grammar.specs.EraText.{text_of_era}
+use Rattle.pd_laid.specs.PoolText.{text_of_shape}
+use Rattle.pd_laid.specs.Shape.{image_shape}
+use Rattle.pd_answers.specs.declared.request.Asked.{Asked}
+use Rattle.pd_answers.specs.declared.request.Asked.TheVariants.{Text, SharedText, ReverseMap, DeviceList, Since, Kept}
 use Rattle.pd_answers.specs.KeptLines.{kept_text}
 
 -- the reverse map: the line of a mapping to a data block
@@ -77,44 +79,29 @@ image_text Thin image = text_of_pool (thin_meaning image)
 image_text Cache image = text_of_cache (cache_meaning image)
 image_text Era image = text_of_era (era_meaning image)
 
--- what is asked of an image
-pub data Asked : Type 0 where
-  -- its text: a dump is the query for it
-  text : Kind → Asked
-  -- the text of a thin pool, in which the leaves that its devices share are told once
-  shared_text : Asked
-  -- the mappings of a pool to the data blocks from one on and below another
-  reverse_map : ℕ → ℕ → Asked
-  -- the thin devices of a pool
-  device_list : Asked
-  -- the blocks of an era target that were written in an era or later
-  since : ℕ → Asked
-  -- what a repair of a pool would keep
-  kept : Asked
-
 -- the kind of the image
 abbrev pub asked_kind : Asked → Kind
-asked_kind (text kind) = kind
-asked_kind shared_text = Thin
-asked_kind (reverse_map first end) = Thin
-asked_kind device_list = Thin
-asked_kind (since era) = Era
-asked_kind kept = Thin
+asked_kind (Text kind) = kind
+asked_kind SharedText = Thin
+asked_kind (ReverseMap first end) = Thin
+asked_kind DeviceList = Thin
+asked_kind (Since era) = Era
+asked_kind Kept = Thin
 
 -- the stage up to which it must be without faults: what is kept is asked of a damaged image
 abbrev pub asked_stage : Asked → Stage
-asked_stage (text kind) = Whole
-asked_stage shared_text = Whole
-asked_stage (reverse_map first end) = Whole
-asked_stage device_list = Whole
-asked_stage (since era) = Whole
-asked_stage kept = Super
+asked_stage (Text kind) = Whole
+asked_stage SharedText = Whole
+asked_stage (ReverseMap first end) = Whole
+asked_stage DeviceList = Whole
+asked_stage (Since era) = Whole
+asked_stage Kept = Super
 
 -- what answers, where the image has no fault up to that stage
 abbrev pub asked_text : Asked → List (List ℕ) → List ℕ
-asked_text (text kind) image = image_text kind image
-asked_text shared_text image = text_of_shape (image_shape image)
-asked_text (reverse_map first end) image = rmap_lines first end (thin_meaning image)
-asked_text device_list image = device_list_lines (thin_meaning image)
-asked_text (since era) image = since_lines era (era_meaning image)
-asked_text kept image = kept_text image
+asked_text (Text kind) image = image_text kind image
+asked_text SharedText image = text_of_shape (image_shape image)
+asked_text (ReverseMap first end) image = rmap_lines first end (thin_meaning image)
+asked_text DeviceList image = device_list_lines (thin_meaning image)
+asked_text (Since era) image = since_lines era (era_meaning image)
+asked_text Kept image = kept_text image

@@ -1,22 +1,53 @@
 -- Trusted base.
 -- The terms of a rehearsal: the restore, check and dump of the generator's text.
-use Rattle.std.specs.Prelude.{◌≡◌, ◌≢◌, ℕ, not, ◌==◌, if◌then◌else◌, List, [], ◌∷◌, length, sum_by, count_by, IfSome}
-use Rattle.pd_kinds.specs.Report.{Reported, report_of}
+-- The text that the generator makes of a number, and the line of the rehearsal over it.
+use Rattle.std.specs.Prelude.{ℕ, ◌+◌, ◌*◌, ◌%◌, ◌==◌, if◌then◌else◌, List, [], ◌∷◌, ◌++◌, codes, decimal, ◌≡◌, ◌≢◌, not, length, sum_by, count_by, IfSome}
+use Rattle.std.specs.List.{flat_map, range_with_len}
+use Rattle.pd_kinds.specs.Rule.{Reported, report_of}
 use Rattle.pd_kinds.specs.Meaning.{ThinDevice}
 use Rattle.pd_grammar.specs.Spelling.{Verdict, accepted, refused, no_room}
-use Rattle.pd_spells.specs.ThinText.{text_of_pool}
-use Rattle.pd_spells.specs.Lines.{reported_lines}
+use Rattle.pd_grammar.specs.ThinText.{text_of_pool}
+use Rattle.pd_grammar.specs.Lines.{reported_lines}
 use Rattle.pd_laid.specs.LaidThin.{laid_shape}
 use Rattle.pd_laid.specs.Shape.{ThinShape, pool_of}
-use Rattle.pd_shapes.specs.PoolText.{IsPoolTextVerdict, is_pool_text_early}
-use Rattle.pd_shapes.specs.SharedNeed.{shape_need}
-use Rattle.pd_laid.specs.Made.{Makes}
-use Rattle.pd_answers.specs.Generated.{generated_text, rehearsal_line}
-use Rattle.pd_answers.specs.Answer.{Answer, Objects, reading, writing}
-use Rattle.pd_answers.specs.Reads.{any_reads}
-use Rattle.pd_answers.specs.Terms.{Terms, unnamed}
+use Rattle.pd_laid.specs.PoolText.{IsPoolTextVerdict, is_pool_text_early, shape_need}
+use Rattle.pd_laid.specs.Laid.{Makes}
+use Rattle.pd_answers.specs.Terms.{Answer, Objects, reading, writing, any_reads, Terms, unnamed}
 use Rattle.pd_answers.specs.Outputs.{HoldsMade, IsRoom, IsWorkDone, LeavesMade}
 use Rattle.pd_answers.specs.Restores.{restore_answer}
+
+-- a line of a word and numbers, with a space before each number
+abbrev pub numbers_line : List ℕ → List ℕ → List ℕ
+numbers_line word numbers = word ++ (flat_map (λ (n : ℕ). 32 ∷ decimal n) numbers ++ (10 ∷ []))
+
+-- how many blocks each of the two devices maps
+abbrev pub generated_mapped : ℕ → ℕ
+generated_mapped number = 1000 * number
+
+-- the first device maps each virtual block to the data block of twice its number
+abbrev pub device_map : ℕ → List ℕ
+device_map v = numbers_line (codes "map") (v ∷ 2 * v ∷ 1 ∷ 0 ∷ [])
+
+-- its snapshot has another data block, of a later time, at each two hundredth virtual block
+abbrev pub snapshot_map : ℕ → List ℕ
+snapshot_map v = if v % 200 == 0 then numbers_line (codes "map") (v ∷ (2 * v + 1) ∷ 1 ∷ 1 ∷ []) else device_map v
+
+-- the text of a pool with a device and its snapshot
+unfoldable pub generated_text : ℕ → List ℕ
+generated_text number =
+    codes "thin 1" ++ (10 ∷ [])
+    ++ (numbers_line (codes "pool 00000000-0000-0000-0000-000000000000") (1 ∷ 2 ∷ 128 ∷ 10000 * number ∷ [])
+    ++ (numbers_line (codes "device") (0 ∷ generated_mapped number ∷ 0 ∷ 0 ∷ 1 ∷ [])
+    ++ (flat_map device_map (range_with_len 0 (generated_mapped number))
+    ++ (numbers_line (codes "device") (1 ∷ generated_mapped number ∷ 1 ∷ 1 ∷ 1 ∷ [])
+    ++ (flat_map snapshot_map (range_with_len 0 (generated_mapped number))
+    ++ (codes "end" ++ (10 ∷ [])))))))
+
+-- the line of a rehearsal: the blocks that its image uses, its mappings, and the lines of its text
+abbrev pub rehearsal_line : ℕ → ℕ → ℕ → ℕ → List ℕ
+rehearsal_line number used mappings lines =
+    codes "rehearsal " ++ (decimal number ++ (codes " used " ++ (decimal used ++ (codes " mappings " ++ (decimal mappings
+    ++ (codes " lines " ++ (decimal lines ++ (codes " clean" ++ (10 ∷ [])))))))))
 
 -- what a rehearsal finds: how many blocks there are, the verdict on the generator's text, the report of the check of
 -- what was restored, and the three numbers that it prints

@@ -1,23 +1,25 @@
 -- Trusted base.
 -- The terms of a repair of a pool, without the leaves that its devices share, or with them.
-use Rattle.std.specs.Prelude.{◌≡◌, ℕ, Bool, true, false, not, ◌==◌, if◌then◌else◌, List, [], ◌∷◌, IfSome}
-use Rattle.pd_kinds.specs.declared.fault.Fault.{Fault}
-use Rattle.pd_kinds.specs.declared.kind.Kind.TheVariants.{Thin}
+-- The terms of a repair of a cache.
+use Rattle.std.specs.Prelude.{◌≡◌, ℕ, Bool, true, false, not, ◌==◌, if◌then◌else◌, List, [], ◌∷◌, IfSome, ◌≢◌, ◌+◌, ◌≤◌, ◌++◌, length, count_by, Option, codes, decimal}
+use Rattle.std.specs.Option.{unwrap_or}
+use Rattle.pd_kinds.specs.declared.rule.Fault.{Fault}
+use Rattle.pd_kinds.specs.declared.kind.Kind.TheVariants.{Thin, Cache}
 use Rattle.pd_kinds.specs.declared.kind.Stage.TheVariants.{Super}
 use Rattle.pd_kinds.specs.Crash.{IsUntouched}
-use Rattle.pd_kinds.specs.Meaning.{ThinPool}
+use Rattle.pd_kinds.specs.Meaning.{ThinPool, CacheMeaning}
 use Rattle.pd_kinds.specs.Objects.{DeviceState}
-use Rattle.pd_kinds.specs.Report.{Reported, report_of}
+use Rattle.pd_kinds.specs.Rule.{Reported, report_of}
 use Rattle.pd_kinds.specs.Stages.{faults}
-use Rattle.pd_spells.specs.Lines.{reported_lines}
-use Rattle.pd_laid.specs.Salvage.{salvage}
+use Rattle.pd_kinds.specs.CacheFormat.{cache_fields}
+use Rattle.pd_kinds.specs.Graph.{block_at}
+use Rattle.pd_grammar.specs.Lines.{reported_lines}
+use Rattle.pd_laid.specs.Salvage.{salvage, saved_shape}
 use Rattle.pd_laid.specs.Shape.{ThinShape}
-use Rattle.pd_shapes.specs.SavedShape.{saved_shape}
-use Rattle.pd_answers.specs.Answer.{Answer, Objects, reading, writing}
-use Rattle.pd_answers.specs.Makings.{Lays, Making, making_answer, pool_making, shape_making}
-use Rattle.pd_answers.specs.Outputs.{IsRoom, LeavesMadeLast}
-use Rattle.pd_answers.specs.Reads.{any_reads}
-use Rattle.pd_answers.specs.Terms.{Terms, unnamed}
+use Rattle.pd_laid.specs.SavedCache.{saved_cache}
+use Rattle.pd_answers.specs.Terms.{Answer, Objects, reading, writing, any_reads, Terms, unnamed}
+use Rattle.pd_answers.specs.Outputs.{Lays, Making, making_answer, pool_making, shape_making, IsRoom, LeavesMadeLast, cache_making, LeavesMadeFirst}
+use Rattle.pd_answers.specs.Writebacks.{is_hot}
 
 -- what a repair finds: the report of the input's superblock, what can be saved, and how many blocks there are for it
 pub record Salvaged (S : Type 0) : Type 0 where
@@ -78,3 +80,50 @@ repair_by broken statuses shared saved_of from to = record {
 -- a repair looks at the faults of the superblock
 abbrev pub repair : Bool → List ℕ → List ℕ → Terms
 repair shared from to = repair_by (faults Thin Super) (0 ∷ 1 ∷ 4 ∷ 5 ∷ 7 ∷ []) shared (saved_of shared) from to
+
+-- the line of what is kept of a cache: how many entries, of how many cache blocks, and how many of them a kernel takes for dirty:
+-- where the cache wasn't shut down, that is each of them
+abbrev pub kept_line : ℕ → ℕ → ℕ → List ℕ
+kept_line entries blocks dirty =
+    codes "keeps " ++ (decimal entries ++ (codes " of " ++ (decimal blocks ++ (codes " blocks, " ++ (decimal dirty ++ (codes " dirty" ++ (10 ∷ [])))))))
+
+abbrev pub keeps_line : CacheMeaning → List ℕ
+keeps_line m = kept_line (length m.entries) m.blocks (count_by (is_hot m) m.entries)
+
+-- what is saved of a cache, and the version of the metadata in which it is written
+pub record SavedIn : Type 0 where
+  pub version : ℕ
+  pub cache : CacheMeaning
+
+-- of an image: in the version that is asked, and else in the image's own
+abbrev pub saved_in : Option ℕ → List (List ℕ) → SavedIn
+saved_in version image = record { version = unwrap_or version (cache_fields (block_at image 0)).version; cache = saved_cache image }
+
+abbrev pub making_in : SavedIn → Making
+making_in saved = cache_making saved.version saved.cache
+
+-- a repair of a cache puts the line of what is kept after its work; else the report of a superblock that has faults, or what was
+-- needed, to `notes`
+abbrev pub kept_answer : Salvaged SavedIn → Answer
+kept_answer found = saved_answer making_in (λ (saved : SavedIn). keeps_line saved.cache) found
+
+-- what it leaves of its output
+pub record LeavesKept (found : Salvaged SavedIn) (before after : Objects) (status : ℕ) : Type 0 where
+  pub made : LeavesMadeFirst (Lays (kept_answer found) (making_in found.saved) found.room) (kept_answer found).status before after status
+  -- the room is looked at before a block behind the superblock is read: where there is none, block 0 alone was read
+  pub unread : (kept_answer found).status ≡ 4 → after.input.reads ≤ before.input.reads + 1
+
+-- it reads one image and writes another; memory isn't wanting where the superblock is told and has a fault
+abbrev pub repair_cache : Option ℕ → List ℕ → List ℕ → Terms
+repair_cache version from to = record {
+  uses = record unnamed { out = reading []; input = reading from; output = writing to };
+  Finding = Salvaged SavedIn;
+  finds = FindsSaved (faults Cache Super) (saved_in version);
+  answer = kept_answer;
+  statuses = 0 ∷ 1 ∷ 4 ∷ 5 ∷ 7 ∷ [];
+  memory = λ before. IfSome before.input.held (λ image. faults Cache Super image ≡ []);
+  silent = 1 ∷ 4 ∷ 5 ∷ 7 ∷ [];
+  spared = λ found. (kept_answer found).status ≢ 0;
+  reads = any_reads;
+  leaves = LeavesKept;
+}

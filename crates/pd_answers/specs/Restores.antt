@@ -6,19 +6,16 @@ use Rattle.pd_kinds.specs.declared.kind.Kind.TheVariants.{Thin, Cache, Era}
 use Rattle.pd_kinds.specs.Crash.{IsUntouched}
 use Rattle.pd_kinds.specs.Objects.{DeviceState}
 use Rattle.pd_grammar.specs.Spelling.{Verdict, accepted, refused, no_room}
-use Rattle.pd_spells.specs.Early.{is_cache_early, is_era_early}
-use Rattle.pd_spells.specs.CacheNeed.{IsCacheVerdict}
-use Rattle.pd_spells.specs.EraNeed.{IsEraVerdict}
-use Rattle.pd_spells.specs.Lines.{refusal_line, no_room_line}
-use Rattle.pd_laid.specs.Laid.{Laid}
-use Rattle.pd_laid.specs.Made.{Makes}
+use Rattle.pd_grammar.specs.Early.{is_cache_early, is_era_early}
+use Rattle.pd_grammar.specs.CacheText.{IsCacheVerdict}
+use Rattle.pd_grammar.specs.EraText.{IsEraVerdict}
+use Rattle.pd_grammar.specs.Lines.{refusal_line, no_room_line}
+use Rattle.pd_laid.specs.Laid.{Laid, Makes}
 use Rattle.pd_laid.specs.LaidThin.{laid_shape}
 use Rattle.pd_laid.specs.LaidCache.{laid_cache}
 use Rattle.pd_laid.specs.LaidEra.{laid_era}
-use Rattle.pd_shapes.specs.PoolText.{IsPoolTextVerdict, is_pool_text_early}
-use Rattle.pd_answers.specs.Answer.{Answer, reading, writing}
-use Rattle.pd_answers.specs.Reads.{any_reads}
-use Rattle.pd_answers.specs.Terms.{Terms, unnamed}
+use Rattle.pd_laid.specs.PoolText.{IsPoolTextVerdict, is_pool_text_early}
+use Rattle.pd_answers.specs.Terms.{Answer, reading, writing, any_reads, Terms, unnamed}
 use Rattle.pd_answers.specs.Outputs.{IsRoom, LeavesMadeLast}
 
 -- what a restore finds: how many blocks there are for metadata, the verdict on the text, and whether the first two

@@ -1,19 +1,108 @@
 -- Trusted base.
 -- The terms of a search: a repair without a superblock.
-use Rattle.std.specs.Prelude.{◌≡◌, ◌≢◌, ℕ, Bool, true, false, List, [], ◌∷◌, Option, Some, None, IfSome, replicate}
+-- The lines of a search for the roots of a pool.
+-- A pool in which sharing is seen: what a search and a repair from named roots write. A kernel copies a data block before a write to a
+-- device where the device was snapped after the mapping there was made; else it writes to the block in place. So each device is
+-- snapped after those of its mappings whose data blocks other mappings lead to.
+use Rattle.std.specs.Prelude.{ℕ, List, [], ◌∷◌, ◌++◌, codes, decimal, ◌+◌, max, min, ◌==◌, Bool, true, false, nat_lt, map, filter, fold, count_by, ◌≡◌, ◌≢◌, Option, Some, None, IfSome, replicate}
+use Rattle.pd_kinds.specs.Meaning.{Mapping, ThinDevice, ThinPool}
 use Rattle.pd_kinds.specs.Graph.{Graph}
-use Rattle.pd_kinds.specs.ThinSuper.{ThinFields}
+use Rattle.pd_kinds.specs.ThinFormat.{ThinFields}
+use Rattle.pd_grammar.specs.Need.{mapped_data}
 use Rattle.pd_laid.specs.FoundRoots.{FoundRoots, lost_graph, IsFound, found_pool}
-use Rattle.pd_laid.specs.Shape.{ThinShape}
-use Rattle.pd_shapes.specs.SavedShape.{saved_shape_from}
-use Rattle.pd_answers.specs.SearchLines.{roots_line, no_roots_line}
-use Rattle.pd_answers.specs.Answer.{Answer, Objects, reading, writing}
-use Rattle.pd_answers.specs.Makings.{Lays, Making, making_answer}
-use Rattle.pd_answers.specs.Outputs.{IsRoom, LeavesMadeFirst}
-use Rattle.pd_answers.specs.Reads.{any_reads}
+use Rattle.pd_laid.specs.Shape.{ShapeDevice, ThinShape, device_of, pool_of}
+use Rattle.pd_laid.specs.Salvage.{saved_shape_from}
 use Rattle.pd_answers.specs.Repairs.{Saved, saved_making}
-use Rattle.pd_answers.specs.Seen.{seen}
-use Rattle.pd_answers.specs.Terms.{Terms, unnamed}
+use Rattle.pd_answers.specs.Terms.{Answer, Objects, reading, writing, any_reads, Terms, unnamed}
+use Rattle.pd_answers.specs.Outputs.{Lays, Making, making_answer, IsRoom, LeavesMadeFirst}
+
+-- the line of the roots that were found, and of what stands below them
+abbrev pub roots_line : FoundRoots → List ℕ
+roots_line roots =
+    codes "roots " ++ (decimal roots.top ++ (codes " " ++ (decimal roots.details ++ (codes " mappings "
+    ++ (decimal roots.mappings ++ (codes " time " ++ (decimal roots.time ++ (10 ∷ []))))))))
+
+-- the line where there are none
+abbrev pub no_roots_line : List ℕ
+no_roots_line = codes "pdata_tools: no roots" ++ (10 ∷ [])
+
+-- a mapping is shared where these data blocks of all mappings have its own twice or more
+abbrev pub is_shared : List ℕ → Mapping → Bool
+is_shared places x = nat_lt 1 (count_by (λ b. b == x.data_block) places)
+
+-- when a device is snapped in such a pool: at the latest of its own time and of one more than the time of each shared mapping
+unfoldable pub seen_snap : List ℕ → ThinDevice → ℕ
+seen_snap places d = fold max d.snapped (map (λ (x : Mapping). x.time + 1) (filter (is_shared places) d.mappings))
+
+abbrev pub seen_device : List ℕ → ThinDevice → ThinDevice
+seen_device places d = record {
+  id = d.id;
+  mapped = d.mapped;
+  transaction = d.transaction;
+  created = d.created;
+  snapped = seen_snap places d;
+  mappings = d.mappings;
+}
+
+-- A mapping has 24 bits for its time. So a pool's time isn't raised above the greatest one that fits: with a greater time a kernel
+-- would write mappings that lead to other blocks
+abbrev pub greatest_time : ℕ
+greatest_time = 16777215
+
+abbrev pub raised_time : ℕ → ℕ → ℕ
+raised_time time least = max time (min least greatest_time)
+
+-- the pool's time isn't before that of a device
+unfoldable pub seen_time : ThinPool → ℕ
+seen_time m = raised_time m.time (fold max 0 (map (seen_snap (mapped_data m)) m.devices))
+
+unfoldable pub seen_pool : ThinPool → ThinPool
+seen_pool m = record {
+  uuid = m.uuid;
+  time = seen_time m;
+  transaction = m.transaction;
+  block_size = m.block_size;
+  data_blocks = m.data_blocks;
+  devices = map (seen_device (mapped_data m)) m.devices;
+}
+
+-- a shape's devices are snapped as those of the pool that it means
+abbrev pub seen_shape_device : ThinShape → ShapeDevice → ShapeDevice
+seen_shape_device w d = record {
+  id = d.id;
+  mapped = d.mapped;
+  transaction = d.transaction;
+  created = d.created;
+  snapped = seen_snap (mapped_data (pool_of w)) (device_of w.leaves d);
+  pieces = d.pieces;
+}
+
+unfoldable pub seen_shape : ThinShape → ThinShape
+seen_shape w = record {
+  uuid = w.uuid;
+  time = seen_time (pool_of w);
+  transaction = w.transaction;
+  block_size = w.block_size;
+  data_blocks = w.data_blocks;
+  leaves = w.leaves;
+  devices = map (seen_shape_device w) w.devices;
+}
+
+-- a pool, without its shared leaves or with them
+abbrev pub seen : (shared : Bool) → Saved shared → Saved shared
+seen false = seen_pool
+seen true = seen_shape
+
+-- the same with another time
+abbrev pub timed_pool : ℕ → ThinPool → ThinPool
+timed_pool time m = record m { time = time }
+
+abbrev pub timed_shape : ℕ → ThinShape → ThinShape
+timed_shape time w = record w { time = time }
+
+abbrev pub timed : (shared : Bool) → ℕ → Saved shared → Saved shared
+timed false = timed_pool
+timed true = timed_shape
 
 -- what a search finds: the best roots, if there are any, what is saved from them, and how many blocks there are for it
 pub record Searched (S : Type 0) : Type 0 where

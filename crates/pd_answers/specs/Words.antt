@@ -1,23 +1,30 @@
 -- Trusted base.
 -- What the words of a command line ask for.
-use Rattle.std.specs.Prelude.{ℕ, Bool, true, false, ◌==◌, ◌^◌, nat_lt, not, ◌&&◌, if◌then◌else◌, List, [], ◌∷◌, length, drop, Option, Some, None, is_some, codes, decimal}
+use Rattle.std.specs.Prelude.{ℕ, ◌+◌, Bool, true, false, ◌==◌, ◌^◌, nat_lt, not, ◌&&◌, if◌then◌else◌, List, [], ◌∷◌, length, drop, Option, Some, None, is_some, codes, decimal}
 use Rattle.std.specs.List.{list_any, list_all, filter_map, take_while}
 use Rattle.std.specs.Option.{option_and_then}
 use Rattle.std.specs.Str.{bytes_eq}
 use Rattle.std.specs.Str.Parse.{digits_value}
 use Rattle.pd_kinds.specs.declared.kind.Flagged.{Flagged}
-use Rattle.pd_kinds.specs.declared.kind.Flagged.TheVariants as flagged
 use Rattle.pd_kinds.specs.declared.kind.Kind.{Kind}
 use Rattle.pd_kinds.specs.declared.kind.Kind.TheVariants.{Thin, Cache, Era}
 use Rattle.pd_kinds.specs.declared.kind.Passing.{Passing}
 use Rattle.pd_kinds.specs.declared.kind.Passing.TheVariants.{Nothing, Leaks}
 use Rattle.pd_kinds.specs.declared.kind.Stage.{Stage}
 use Rattle.pd_kinds.specs.declared.kind.Stage.TheVariants.{Super, Walk, Order, Whole, Counts}
-use Rattle.pd_answers.specs.QueryLines as ask
-use Rattle.pd_answers.specs.Tools.{Need, Tool, ToolWords, Value, Word, check_tool, dump_tool, restore_tool, repair_tool, search_tool, named_repair_tool, dry_repair_tool, dry_search_tool, dry_named_tool, cache_repair_tool, rmap_tool, device_list_tool, since_tool, generate_tool, rehearse_tool, writeback_tool, shrink_tool, tools, image_word, until_word, passing_word, clear_word, file_word, shared_word, region_word, since_word, text_word, input_word, output_word, dry_run_word, version_word, number_word, transaction_word, block_size_word, data_blocks_word, mapping_root_word, details_root_word, metadata_word, fast_word, origin_word, data_word, blocks_word}
-use Rattle.pd_answers.specs.Tools as table
-use Rattle.pd_answers.specs.NamedRoots.{GivenSuper, NamedRoots}
-use Rattle.pd_answers.specs.Requests.{Request, check, passing_check, check_and_clear, query, restore, repair, search, repair_named, dry_search, repair_cache, generate, rehearse, writeback, shrink}
+use Rattle.pd_kinds.specs.declared.kind.Flagged.TheVariants as flagged
+use Rattle.pd_answers.specs.declared.request.GivenSuper.{GivenSuper}
+use Rattle.pd_answers.specs.declared.request.NamedRoots.{NamedRoots}
+use Rattle.pd_answers.specs.declared.request.Request.TheVariants.{Check, PassingCheck, CheckAndClear, Query, Restore, Repair, Search, RepairNamed, DrySearch, RepairCache, Generate, Rehearse, Writeback, Shrink}
+use Rattle.pd_answers.specs.declared.tool.Need.{Need}
+use Rattle.pd_answers.specs.declared.tool.Need.TheVariants.{Flag, Mark, Wanted, Optional}
+use Rattle.pd_answers.specs.declared.tool.Tool.{Tool}
+use Rattle.pd_answers.specs.declared.tool.Value.{Value}
+use Rattle.pd_answers.specs.Tools.{ToolWords, Word, tools, image_word, until_word, passing_word, clear_word, file_word, shared_word, region_word, since_word, text_word, input_word, output_word, dry_run_word, version_word, number_word, transaction_word, block_size_word, data_blocks_word, mapping_root_word, details_root_word, metadata_word, fast_word, origin_word, data_word, blocks_word}
+use Rattle.pd_answers.specs.Requests.{Request}
+use Rattle.pd_answers.specs.declared.request.Asked.TheVariants as ask
+use Rattle.pd_answers.specs.declared.tool.Tool.TheVariants as tool
+use Rattle.pd_answers.specs.declared.tool.Value.TheVariants as value
 
 -- the next step needs the value of this one
 infixl 10 ◌>>=◌
@@ -31,10 +38,10 @@ is_value (first ∷ rest) = not (first == 45)
 
 -- whether a word has no value
 abbrev pub is_flag_need : Need → Bool
-is_flag_need table.flag = true
-is_flag_need table.mark = true
-is_flag_need (table.wanted value) = false
-is_flag_need (table.optional value) = false
+is_flag_need Flag = true
+is_flag_need Mark = true
+is_flag_need (Wanted value) = false
+is_flag_need (Optional value) = false
 
 -- whether a word has this name
 abbrev pub is_named : List ℕ → Word → Bool
@@ -174,23 +181,23 @@ version_or_first (Some version) = version
 
 -- what a value is
 abbrev pub Meant : Value → Type 0
-Meant table.file = List ℕ
-Meant table.device = List ℕ
-Meant table.stage = Stage
-Meant table.version = ℕ
-Meant table.region = Region
-Meant (table.below bound) = ℕ
-Meant table.generated = ℕ
+Meant value.File = List ℕ
+Meant value.Device = List ℕ
+Meant value.Stage = Stage
+Meant value.Version = ℕ
+Meant value.Region = Region
+Meant (value.UpTo most) = ℕ
+Meant value.Generated = ℕ
 
 -- and what the word says that gives it
 abbrev pub meant : (value : Value) → List ℕ → Option (Meant value)
-meant table.file word = Some word
-meant table.device word = Some word
-meant table.stage word = stage_of word
-meant table.version word = version_of (Some word)
-meant table.region word = region_of word
-meant (table.below bound) word = number_below bound word
-meant table.generated word = generated_number word
+meant value.File word = Some word
+meant value.Device word = Some word
+meant value.Stage word = stage_of word
+meant value.Version word = version_of (Some word)
+meant value.Region word = region_of word
+meant (value.UpTo most) word = number_below (most + 1) word
+meant value.Generated word = generated_number word
 
 abbrev pub meant_if_any : (value : Value) → Option (List ℕ) → Option (Option (Meant value))
 meant_if_any value None = Some None
@@ -200,16 +207,16 @@ meant_if_any value (Some word) = do
 
 -- what a word of the table says: whether a flag is set, or a value
 abbrev pub Told : Need → Type 0
-Told table.flag = Bool
-Told table.mark = Bool
-Told (table.wanted value) = Meant value
-Told (table.optional value) = Option (Meant value)
+Told Flag = Bool
+Told Mark = Bool
+Told (Wanted value) = Meant value
+Told (Optional value) = Option (Meant value)
 
 abbrev pub told_by : (need : Need) → Given → Option (Told need)
-told_by table.flag times = is_set times
-told_by table.mark times = is_marked times
-told_by (table.wanted value) times = single_value times >>= meant value
-told_by (table.optional value) times = at_most_one times >>= meant_if_any value
+told_by Flag times = is_set times
+told_by Mark times = is_marked times
+told_by (Wanted value) times = single_value times >>= meant value
+told_by (Optional value) times = at_most_one times >>= meant_if_any value
 
 -- what the items say for it
 abbrev pub told : (word : Word) → List Item → Option (Told word.need)
@@ -228,17 +235,17 @@ passing_of true = Leaks
 
 -- the flags stand only where the check goes to its end
 abbrev pub check_with : Kind → Stage → Bool → Bool → List ℕ → Option Request
-check_with kind until false false image = Some (check kind until image)
-check_with kind Counts true false image = Some (passing_check kind image)
+check_with kind until false false image = Some (Check kind until image)
+check_with kind Counts true false image = Some (PassingCheck kind image)
 check_with kind Counts leaks true image = do
   which ← flagged_of kind
-  Some (check_and_clear which (passing_of leaks) image)
+  Some (CheckAndClear which (passing_of leaks) image)
 check_with kind until leaks clear image = None
 
 -- only of a pool the leaves that are shared are told once
 abbrev pub dump_with : Kind → Bool → Option (List ℕ) → List ℕ → Option Request
-dump_with kind false file image = Some (query (ask.text kind) file image)
-dump_with Thin true file image = Some (query ask.shared_text file image)
+dump_with kind false file image = Some (Query (ask.Text kind) file image)
+dump_with Thin true file image = Some (Query ask.SharedText file image)
 dump_with Cache true file image = None
 dump_with Era true file image = None
 
@@ -258,97 +265,97 @@ named_roots items = do
 
 -- what the items ask of a tool
 unfoldable pub request_of : Tool → List Item → Option Request
-request_of (check_tool kind) items = do
+request_of (tool.Check kind) items = do
   until ← told until_word items
   leaks ← told passing_word items
   clear ← told clear_word items
   image ← told image_word items
   check_with kind (stage_or_last until) leaks clear image
-request_of (dump_tool kind) items = do
+request_of (tool.Dump kind) items = do
   shared ← told shared_word items
   file ← told file_word items
   image ← told image_word items
   dump_with kind shared file image
-request_of (restore_tool kind) items = do
+request_of (tool.Restore kind) items = do
   version ← told version_word items
   text ← told text_word items
   image ← told output_word items
-  Some (restore kind (version_or_first version) text image)
-request_of repair_tool items = do
+  Some (Restore kind (version_or_first version) text image)
+request_of tool.Repair items = do
   shared ← told shared_word items
   input ← told input_word items
   output ← told output_word items
-  Some (repair shared input output)
-request_of search_tool items = do
+  Some (Repair shared input output)
+request_of tool.Search items = do
   shared ← told shared_word items
   input ← told input_word items
   output ← told output_word items
   given ← given_super items
-  Some (search shared input output given.transaction given.block_size given.blocks)
-request_of named_repair_tool items = do
+  Some (Search shared input output given)
+request_of tool.NamedRepair items = do
   shared ← told shared_word items
   input ← told input_word items
   output ← told output_word items
   given ← given_super items
   named ← named_roots items
-  Some (repair_named shared input output given named)
-request_of dry_repair_tool items = do
+  Some (RepairNamed shared input output given named)
+request_of tool.DryRepair items = do
   dry_run ← told dry_run_word items
   shared ← told shared_word items
   input ← told input_word items
-  Some (query ask.kept None input)
-request_of dry_search_tool items = do
+  Some (Query ask.Kept None input)
+request_of tool.DrySearch items = do
   dry_run ← told dry_run_word items
   shared ← told shared_word items
   input ← told input_word items
   given ← given_super items
-  Some (dry_search input given None)
-request_of dry_named_tool items = do
+  Some (DrySearch input given None)
+request_of tool.DryNamed items = do
   dry_run ← told dry_run_word items
   shared ← told shared_word items
   input ← told input_word items
   given ← given_super items
   named ← named_roots items
-  Some (dry_search input given (Some named))
-request_of cache_repair_tool items = do
+  Some (DrySearch input given (Some named))
+request_of tool.RepairCache items = do
   version ← told version_word items
   input ← told input_word items
   output ← told output_word items
-  Some (repair_cache version input output)
-request_of rmap_tool items = do
+  Some (RepairCache version input output)
+request_of tool.ReverseMap items = do
   region ← told region_word items
   file ← told file_word items
   image ← told image_word items
-  Some (query (ask.reverse_map region.first region.end) file image)
-request_of device_list_tool items = do
+  Some (Query (ask.ReverseMap region.first region.end) file image)
+request_of tool.DeviceList items = do
   file ← told file_word items
   image ← told image_word items
-  Some (query ask.device_list file image)
-request_of since_tool items = do
+  Some (Query ask.DeviceList file image)
+request_of tool.Since items = do
   era ← told since_word items
   file ← told file_word items
   image ← told image_word items
-  Some (query (ask.since era) file image)
-request_of generate_tool items = do
+  Some (Query (ask.Since era) file image)
+request_of tool.Generate items = do
   number ← told number_word items
   file ← told file_word items
-  Some (generate number file)
-request_of rehearse_tool items = do
+  Some (Generate number file)
+request_of tool.Rehearse items = do
   number ← told number_word items
   image ← told output_word items
-  Some (rehearse number image)
-request_of writeback_tool items = do
+  Some (Rehearse number image)
+request_of tool.Writeback items = do
   metadata ← told metadata_word items
   fast ← told fast_word items
   origin ← told origin_word items
-  Some (writeback metadata fast origin)
-request_of shrink_tool items = do
+  Some (Writeback metadata fast origin)
+request_of tool.Shrink items = do
   shared ← told shared_word items
   input ← told input_word items
   output ← told output_word items
   pool ← told data_word items
   blocks ← told blocks_word items
-  Some (shrink shared input output pool blocks)
+  Some (Shrink shared input output pool blocks)
 
 -- whether an item is given for one of these words
 abbrev pub is_known : List Word → Item → Bool

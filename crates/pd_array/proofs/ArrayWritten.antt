@@ -1,18 +1,17 @@
 -- What stands in the block that is written for an array's words.
-use Rattle.std.proofs.Common.{◌≡◌, inl, inr, ℕ, suc, ◌+◌, ◌-◌, ◌*◌, ◌%◌, ◌^◌, ◌<◌, ◌≤◌, true, false, List, length, get_or, refl, ◌∙◌, arith, eq-eqb}
+use Rattle.std.proofs.Common.{◌≡◌, inl, ℕ, suc, ◌+◌, ◌*◌, ◌%◌, ◌^◌, ◌<◌, ◌≤◌, true, false, List, length, get_or, refl, ◌∙◌, arith, eq-eqb}
 use Rattle.std.proofs.Math.Nat.{mul-le-mul_left, mul-suc}
-use Rattle.std.proofs.lemmas.Bool.{cases_lt}
 use Rattle.std.proofs.lemmas.Bool.Decides.{nat_tests}
 use Rattle.pd_kinds.specs.declared.rule.Rule.{Rule}
-use Rattle.pd_kinds.specs.Field.{le, written, zeros}
-use Rattle.pd_kinds.specs.Checksum.{has_checksum}
-use Rattle.pd_kinds.specs.RuleSet.{alone, failing}
+use Rattle.pd_kinds.specs.Field.{le, written, zeros, has_checksum}
+use Rattle.pd_kinds.specs.Rule.{alone, failing}
 use Rattle.pd_kinds.specs.Node.{puts}
 use Rattle.pd_kinds.specs.Array.{array_bad, array_block, array_entries, array_max, array_place, array_rows, array_tests, array_value_size, is_array_shape_bad, max_words, word_at, word_count}
 use Rattle.pd_kinds.proofs.WrittenLemmas.{is_looked_up, looked_up, length-written_zeros, row_read, le-sealed_other}
-use Rattle.pd_kinds.proofs.PutsLemmas.{le-puts, le-puts_other}
-use Rattle.pd_array.specs.declared.word.Word.{Word}
-use Rattle.pd_array.specs.declared.word.Word.TheVariants.{Four, Eight}
+use Rattle.pd_kinds.proofs.FieldLemmas.{le-puts, le-puts_other}
+use Rattle.pd_kinds.proofs.KindLemmas.{counted_below}
+use Rattle.pd_array.specs.declared.array.Word.{Word}
+use Rattle.pd_array.specs.declared.array.Word.TheVariants.{Four, Eight}
 use Rattle.pd_array.specs.Word.{size_of}
 
 -- a number of the header reads back
@@ -71,17 +70,6 @@ word_room size i n max within most room =
     let last : size * suc i ≤ size * max = mul-le-mul_left size (omega arith) in
     let next : size * suc i ≡ size * i + size = mul-suc size i in
     omega arith
-
--- the words that are counted are at most those that have room
-pub counted_below : (size : ℕ) (b : List ℕ) (i : ℕ) → i < word_count size b → (array_max b ≡ max_words size) × (i < array_max b)
-unfolding word_count is_array_shape_bad
-counted_below size b i within = (grind (arith, nat_tests), grind (arith, nat_tests))
-
-pub few_words : (size : ℕ) (b : List ℕ) → word_count size b ≤ max_words size
-few_words size b = elim (cases_lt 0 (word_count size b)) [
-  | inl some ↦ let last = counted_below size b (word_count size b - 1) (omega arith) in omega (arith, last.0, last.1)
-  | inr none ↦ omega arith
-]
 
 -- each size of a word leaves room in the block
 pub word_within : (word : Word) (b : List ℕ) (i : ℕ) → i < word_count (size_of word) b → 24 + size_of word * i + size_of word ≤ 4096

@@ -2,12 +2,8 @@
 //! "drivers/md/persistent-data/dm-array.c" stores them.
 #![tactic(auto)]
 
-mod read;
-mod rules;
-mod word;
-mod write;
+mod array;
 
-pub use read::{array_len, array_word};
-pub use rules::array_rules;
-pub use word::Word;
-pub use write::{seal_array, set_array_word, write_array};
+pub use array::{
+    Word, array_len, array_rules, array_word, seal_array, set_array_word, write_array,
+};

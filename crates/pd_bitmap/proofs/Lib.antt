@@ -1,5 +1,2 @@
-pub mod CountBits
-pub mod Placed
-pub mod IndexRow
 pub mod Filled
-pub mod OneNumber
+pub mod Placed

@@ -1,7 +1,11 @@
 -- The counts of a bitmap: four in a byte, of two bits each.
-use Rattle.std.specs.Prelude.{ℕ, ◌+◌, ◌*◌, ◌/◌, ◌%◌, min, List, ◌++◌, map, replicate}
+-- Runs of equal counts in a bitmap.
+-- The entries of an index block, as the struct has them.
+use Rattle.std.specs.Prelude.{ℕ, ◌+◌, ◌*◌, ◌/◌, ◌%◌, min, List, ◌++◌, map, replicate, ◌≡◌, ◌<◌, ◌^◌}
 use Rattle.std.specs.List.{range_with_len}
 use Rattle.std.specs.Int.{bit_at}
+use Rattle.pd_kinds.specs.Bitmap.{two_bits_of}
+use Rattle.pd_value.specs.declared.space_map.IndexEntry.{IndexEntry}
 
 -- the count at this place of the byte: the high bit is the first of its two bits
 abbrev pub count_at : ℕ → ℕ → ℕ
@@ -19,3 +23,14 @@ stored_four numbers j =
 -- the bitmap of these numbers, that isn't sealed yet
 unfoldable pub stored_all : (ℕ → ℕ) → List ℕ
 stored_all numbers = replicate 16 0 ++ map (stored_four numbers) (range_with_len 0 4080)
+
+-- the 32 counts of group g of a bitmap are this number, which two bits hold
+pub record AreAll (bitmap : List ℕ) (g number : ℕ) : Type 0 where
+  pub held : number < 3
+  pub counts : (k : ℕ) → k < 32 → two_bits_of bitmap (32 * g + k) ≡ number
+
+-- each number of an entry fits its field
+pub record DoFieldsFit (entry : IndexEntry) : Type 0 where
+  pub block : entry.block < 2 ^ 64
+  pub free : entry.free < 2 ^ 32
+  pub none_before : entry.none_before < 2 ^ 32

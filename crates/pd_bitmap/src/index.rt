@@ -1,17 +1,16 @@
 //! The index block of the metadata's space map: an entry for each bitmap.
 
-ghost use Rattle.pd_kinds.specs.declared.limits.TheConstants.{MAX_META_BLOCKS};
-ghost use Rattle.std.specs.Prelude.{◌≡◌, ℕ, ◌+◌, ◌*◌, ◌<◌, ◌≤◌, ◌&&◌, All, EachIndex, Some, false, true, length, map, slice_get};
+ghost use Rattle.std.specs.Prelude.{◌≡◌, ℕ, ◌+◌, ◌*◌, ◌<◌, ◌≤◌, ◌&&◌, EachIndex, Some, false, true, length, map, slice_get};
 ghost use Rattle.std.specs.List.{list_any};
+ghost use Rattle.pd_kinds.specs.declared.limits.TheConstants.{MAX_META_BLOCKS};
 ghost use Rattle.pd_kinds.specs.declared.rule.Rule.{Rule as BrokenRule};
 ghost use Rattle.pd_kinds.specs.declared.rule.Rule.TheVariants.{Checksum, Place, Pointer};
-ghost use Rattle.pd_kinds.specs.Bitmap.{index_bad, index_block_at, index_blocks, index_code_at, index_salt, index_tests, placed_block, unsealed_index};
+ghost use Rattle.pd_kinds.specs.Bitmap.{index_bad, index_block_at, index_blocks, index_code_at, index_salt};
+ghost use Rattle.pd_kinds.specs.Bitmap.{index_tests, placed_block, unsealed_index};
 ghost use Rattle.pd_kinds.specs.Field.{le, put};
-ghost use Rattle.pd_kinds.specs.Node.{puts};
-ghost use Rattle.pd_kinds.specs.Rule.{same_rule};
-ghost use Rattle.pd_kinds.specs.RuleSet.{failing, has_rule};
-ghost use Rattle.pd_kinds.specs.Edge.{is_outside};
-ghost use Rattle.pd_bitmap.specs.Index.{DoFieldsFit};
+ghost use Rattle.pd_kinds.specs.Rule.{same_rule, failing, has_rule};
+ghost use Rattle.pd_kinds.specs.Graph.{is_outside};
+ghost use Rattle.pd_bitmap.specs.Counts.{DoFieldsFit};
 
 use crate::HEADER_SIZE;
 use pd_crc::{is_sealed, seal};
@@ -29,7 +28,7 @@ const ENTRY_SIZE: usize = 16;
 ///
 /// A block whose checksum is wrong breaks Checksum alone. Only the entries of the bitmaps that so
 /// many blocks need are looked at.
-#[tactic(auto, unfolding(pd_kinds::specs::Bitmap::index_bad, pd_kinds::specs::RuleSet::alone))]
+#[tactic(auto, unfolding(pd_kinds::specs::Bitmap::index_bad, pd_kinds::specs::Rule::alone))]
 pub fn index_rules(block: &Block, place: u64, nr: u64) -> Rules
     requires { nr ≤ MAX_META_BLOCKS }
     ensures { (rule : BrokenRule) → has_rule result rule ≡ index_bad nr place block.now.0 rule }
@@ -41,7 +40,7 @@ pub fn index_rules(block: &Block, place: u64, nr: u64) -> Rules
 }
 
 /// The rules that are looked at each by itself.
-#[tactic(auto, unfolding(pd_kinds::specs::Bitmap::index_tests, pd_kinds::specs::RuleSet::failing))]
+#[tactic(auto, unfolding(pd_kinds::specs::Bitmap::index_tests, pd_kinds::specs::Rule::failing))]
 fn table_rules(block: &Block, place: u64, nr: u64) -> Rules
     requires { nr ≤ MAX_META_BLOCKS }
     ensures { (rule : BrokenRule) → has_rule result rule ≡ failing (index_tests nr place block.now.0) rule }
@@ -93,22 +92,14 @@ pub fn new_index(entries: &[IndexEntry]) -> Block
     requires { length entries.now ≤ 255 }
     ensures block { result.0 ≡ unsealed_index (map ⟦<IndexEntry as Value>⟧.code entries.now) }
     // Reading what was written gives the same entries.
-    ensures entries { EachIndex entries.now (λ i. slice_get entries.now i ≡ Some (⟦<IndexEntry as Value>⟧.decoded (index_code_at result.0 i))) }
+    ensures entries { EachIndex entries.now (λ i.
+        slice_get entries.now i ≡ Some (⟦<IndexEntry as Value>⟧.decoded (index_code_at result.0 i))) }
 {
     let mut block = Block::zeros();
-    put_entries(&mut block, entries);
-    block
-}
-
-/// Writes the entries in a row behind the header, and changes no other byte.
-fn put_entries(block: &mut Block, entries: &[IndexEntry])
-    requires { length entries.now ≤ 255 }
-    ensures row { block.new.0 ≡ puts block.old.0 16 16 (map ⟦<IndexEntry as Value>⟧.code entries.now) }
-    ensures fit { All DoFieldsFit entries.now }
-{
     for i in 0..entries.len() {
-        put_entry(block, HEADER_SIZE + ENTRY_SIZE * i, entries[i]);
+        put_entry(&mut block, HEADER_SIZE + ENTRY_SIZE * i, entries[i]);
     }
+    block
 }
 
 /// Writes one entry, and changes no other byte.

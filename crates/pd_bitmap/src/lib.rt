@@ -3,12 +3,11 @@
 #![tactic(auto)]
 
 mod bitmap;
-mod counts;
-mod groups;
 mod index;
 
-pub use bitmap::{bitmap_rules, filled_bitmap, new_bitmap, seal_bitmap, set_two_bits, two_bits};
-pub use groups::one_number;
+pub use bitmap::{
+    bitmap_rules, filled_bitmap, new_bitmap, one_number, seal_bitmap, set_two_bits, two_bits,
+};
 pub use index::{index_entry, index_rules, new_index, seal_index};
 
 /// The size of the header of a bitmap and of an index block in bytes: the counts, and the entries,

@@ -3,23 +3,22 @@ use Rattle.std.proofs.Common.{◌≡◌, ◌⊎◌, inl, inr, ⊎_elim, ℕ, zer
 use Rattle.std.proofs.Math.Nat.{add-div_right, div-eq_of_lt}
 use Rattle.std.proofs.Math.Seq.{take-append_seam, drop-append_seam}
 use Rattle.std.proofs.lemmas.List.{append_assoc, append-nil, nil_from_length, take_all, drop_all}
-use Rattle.pd_kinds.specs.Array.{array_block, max_words}
-use Rattle.pd_draft.specs.Closed.{IsClosed}
-use Rattle.pd_draft.specs.Placed.{DraftState, Wrote}
-use Rattle.pd_draft.proofs.PlacedLemmas.{wrote_none, wrote_then}
-use Rattle.pd_spells.specs.Need.{nodes_for, need_tree, need_array}
-use Rattle.pd_laid.specs.Tree.{blocks_from, tree_blocks, tree_root}
-use Rattle.pd_laid.specs.Array.{pieces, array_pieces, array_items, array_root}
-use Rattle.pd_build.specs.Array.{Words, ArrayLeft, array_blocks, pieces_left, array_left, array_root_left, array_number, Pushes}
 use Rattle.std.specs.List.{range_with_len}
 use Rattle.std.specs.Prelude.{map, nat_lt, true}
 use Rattle.std.proofs.lemmas.Bool.{and_from, lt-ltb}
-use Rattle.std.proofs.lemmas.List.FromFn.{length-map-range_with_len, get_or-map-range_with_len}
+use Rattle.std.proofs.lemmas.List.FromFn.{get_or-map-range_with_len}
+use Rattle.pd_kinds.specs.Array.{array_block, max_words}
 use Rattle.pd_kinds.specs.Node.{Entry, is_ascending}
+use Rattle.pd_grammar.specs.Need.{nodes_for, need_tree, need_array}
+use Rattle.pd_laid.specs.Laid.{blocks_from, tree_blocks, tree_root, pieces, array_pieces, array_items, array_root}
+use Rattle.pd_laid.proofs.NeedLemmas.{length-items}
+use Rattle.pd_draft.specs.Closed.{IsClosed, DraftState, Wrote}
+use Rattle.pd_draft.proofs.DraftLemmas.{wrote_none, wrote_then}
+use Rattle.pd_build.specs.Array.{Words, ArrayLeft, array_blocks, pieces_left, array_left, array_root_left, array_number, Pushes}
 use Rattle.pd_build.specs.Tree.{TreeLeft}
 use Rattle.pd_build.specs.Building.{IsBuilding, IsFilling}
 use Rattle.pd_build.proofs.BuildingLemmas.{building_at}
-use Rattle.pd_build.proofs.CountLemmas.{parts_none, parts_some}
+use Rattle.pd_build.proofs.TakesLemmas.{parts_none, parts_some}
 
 parts_step : (most n : ℕ) → 1 ≤ most → nodes_for most (most + n) ≡ nodes_for most n + 1
 parts_step most n some =
@@ -150,11 +149,6 @@ push_end size word old new from to begun left made less ends wrote =
       stood = λ stood. omega arith;
     }
 
--- the entries of an array's tree
-pub length-array_items : (first count : ℕ) → length (array_items first count) ≡ count
-unfolding array_items
-length-array_items first count = length-map-range_with_len (λ (i : ℕ). record { key = i; value = first + i }) 0 count
-
 pub array_item_at : (first count i : ℕ) (d : Entry) → i < count → get_or (array_items first count) i d ≡ record { key = i; value = first + i }
 unfolding array_items
 array_item_at first count i d within =
@@ -177,13 +171,13 @@ array_some size t room some = let is = parts_some (max_words size) (length t.beg
 pub index_at : {size : ℕ} {t : TreeLeft} {from to : DraftState} (first count i : ℕ) → IsBuilding size (array_items first count) (drop i (array_items first count)) t from to → i < count
     → IsBuilding size (array_items first count) (record { key = i; value = first + i } ∷ drop (i + 1) (array_items first count)) t from to
 index_at {size} {t} {from} {to} first count i b within =
-    let n = length-array_items first count in
+    let n = length-items first count in
     building_at i (record { key = i; value = first + i }) b (omega arith) (array_item_at first count i (record { key = i; value = first + i }) within)
 
 pub index_end : {size : ℕ} {t : TreeLeft} {from to : DraftState} (first count i : ℕ) → IsBuilding size (array_items first count) (drop i (array_items first count)) t from to → count ≤ i
     → IsBuilding size (array_items first count) [] t from to
 index_end {size} {t} {from} {to} first count i b past =
-    let n = length-array_items first count in
+    let n = length-items first count in
     subst (λ (rest : List Entry). IsBuilding size (array_items first count) rest t from to) (drop_all i (array_items first count) (omega arith)) b
 
 -- before the first word

@@ -2,25 +2,24 @@
 use Rattle.std.proofs.Common.{◌≡◌, ℕ, suc, ◌+◌, ◌<◌, true, nat_lt, List, [], ◌∷◌, ◌++◌, length, drop, get_or, sym, ◌∙◌, ap, subst, arith, drop-cons, add-one}
 use Rattle.std.proofs.lemmas.Bool.{and_parts, ltb-true}
 use Rattle.std.proofs.lemmas.List.{append_assoc}
-use Rattle.pd_kinds.specs.Node.{Entry, is_ascending}
-use Rattle.pd_draft.specs.Closed.{IsClosed}
-use Rattle.pd_node.specs.Items.{entries_of}
 use Rattle.std.specs.List.{drop-map}
 use Rattle.std.specs.Prelude.{Result, Ok, Err, IfOk}
-use Rattle.pd_draft.specs.Placed.{DraftState, Wrote}
-use Rattle.pd_draft.proofs.PlacedLemmas.{wrote_none, wrote_then}
-use Rattle.pd_laid.specs.Tree.{tree_blocks, tree_root}
-use Rattle.pd_spells.specs.Need.{need_tree}
-use Rattle.pd_build.proofs.OrderLemmas.{keys, asc_tail}
-use Rattle.pd_build.specs.Leaves.{items_to_come}
-use Rattle.pd_build.specs.Tree.{TreeLeft, blocks_left, root_left, number_left, Grows}
+use Rattle.pd_kinds.specs.Node.{Entry, is_ascending}
+use Rattle.pd_kinds.proofs.KindLemmas.{asc_tail}
+use Rattle.pd_kinds.specs.Trees.{keys_of}
+use Rattle.pd_grammar.specs.Need.{need_tree}
+use Rattle.pd_laid.specs.Laid.{tree_blocks, tree_root}
+use Rattle.pd_node.specs.Items.{entries_of}
+use Rattle.pd_draft.specs.Closed.{IsClosed, DraftState, Wrote}
+use Rattle.pd_draft.proofs.DraftLemmas.{wrote_none, wrote_then}
+use Rattle.pd_build.specs.Tree.{items_to_come, TreeLeft, blocks_left, root_left, number_left, Grows}
 use Rattle.pd_build.specs.Building.{StartsAt, IsBuilding}
 
 starts_at_none : (low : ℕ) (items : List Entry) → low ≡ 0 → StartsAt low items
 starts_at_none low [] none = tt
 starts_at_none low (e ∷ items) none = omega arith
 
-starts_next : (e : Entry) (items : List Entry) (low : ℕ) → is_ascending (keys (e ∷ items)) ≡ true → low ≡ e.key + 1 → StartsAt low items
+starts_next : (e : Entry) (items : List Entry) (low : ℕ) → is_ascending (keys_of (e ∷ items)) ≡ true → low ≡ e.key + 1 → StartsAt low items
 unfolding is_ascending
 starts_next e [] low asc is = tt
 starts_next e (f ∷ items) low asc is =
@@ -29,7 +28,7 @@ starts_next e (f ∷ items) low asc is =
 pub building_start : {size : ℕ} {draft_state : DraftState} (all : List Entry) (t : TreeLeft) → IsClosed draft_state.device
     → blocks_left size draft_state.place t all ≡ tree_blocks size draft_state.place all
     → root_left draft_state.place t all ≡ tree_root size draft_state.place all
-    → items_to_come t.leaves ≡ length all → number_left t ≡ need_tree size (length all) → t.leaves.low ≡ 0 → is_ascending (keys all) ≡ true
+    → items_to_come t.leaves ≡ length all → number_left t ≡ need_tree size (length all) → t.leaves.low ≡ 0 → is_ascending (keys_of all) ≡ true
     → IsBuilding size all all t draft_state draft_state
 building_start {size} {draft_state} all t closed blocks root number room low asc = record {
   done = [];
@@ -51,7 +50,7 @@ building_next {size} {all} {items} {e} {old} {new} {from} {mid} {to} b g = recor
   root = sym (g.root items) ∙ b.root;
   number = omega (arith, b.number, g.items);
   room = g.room ∙ b.room;
-  ascending = asc_tail e.key (keys items) b.ascending;
+  ascending = asc_tail e.key (keys_of items) b.ascending;
   above = starts_next e items new.leaves.low b.ascending g.raised;
 }
 

@@ -1,11 +1,8 @@
-pub mod ArrayLemmas
 pub mod BuildingLemmas
-pub mod CountLemmas
-pub mod NeedLemmas
-pub mod OrderLemmas
-pub mod PartLemmas
-pub mod RowLemmas
-pub mod SpreadLemmas
 pub mod TakesLemmas
+pub mod RowLemmas
+pub mod ArrayLemmas
+pub mod PartLemmas
 pub mod TreeLemmas
 pub mod UpperLemmas
+pub mod OrderLemmas

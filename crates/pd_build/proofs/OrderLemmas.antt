@@ -1,40 +1,20 @@
 -- Items in order.
-use Rattle.std.proofs.Common.{◌≡◌, ℕ, ◌+◌, ◌<◌, ◌≤◌, Bool, true, nat_lt, List, [], ◌∷◌, ◌++◌, length, map, refl, sym, ◌∙◌, ap, arith}
+use Rattle.std.proofs.Common.{◌≡◌, ℕ, ◌+◌, ◌<◌, ◌≤◌, Bool, true, nat_lt, List, [], ◌∷◌, ◌++◌, length, refl, sym, ◌∙◌, ap, arith}
 use Rattle.std.specs.List.{AllByRecursion, flat_map}
 use Rattle.std.proofs.lemmas.Bool.{and_from, and_parts, lt-ltb, ltb-true}
 use Rattle.std.proofs.lemmas.List.{map-append}
 use Rattle.std.proofs.lemmas.List.Elements.{All-append, All-cons, All-nil}
 use Rattle.pd_kinds.specs.Node.{Entry, is_ascending}
-use Rattle.pd_laid.specs.Tree.{heads}
+use Rattle.pd_kinds.proofs.KindLemmas.{asc_right}
+use Rattle.pd_kinds.specs.Trees.{keys_of as keys}
+use Rattle.pd_laid.specs.Laid.{heads}
 use Rattle.pd_node.specs.Items.{keys_of}
-use Rattle.pd_build.specs.Leaves.{AreInOrder, low_after}
+use Rattle.pd_build.specs.Tree.{AreInOrder, low_after}
 
 -- the least key above a last entry
 pub low_after-last : (low : ℕ) (entries : List Entry) (e : Entry) → low_after low (entries ++ e ∷ []) ≡ e.key + 1
 low_after-last low [] e = refl
 low_after-last low (x ∷ entries) e = low_after-last (x.key + 1) entries e
-
--- the keys of entries
-abbrev pub keys : List Entry → List ℕ
-keys entries = map (λ (e : Entry). e.key) entries
-
--- parts of ascending numbers ascend
-pub asc_tail : (x : ℕ) (xs : List ℕ) → is_ascending (x ∷ xs) ≡ true → is_ascending xs ≡ true
-unfolding is_ascending
-asc_tail x [] asc = refl
-asc_tail x (y ∷ xs) asc = (and_parts (nat_lt x y) (is_ascending (y ∷ xs)) asc).1
-
-pub asc_left : (xs ys : List ℕ) → is_ascending (xs ++ ys) ≡ true → is_ascending xs ≡ true
-unfolding is_ascending
-asc_left [] ys asc = refl
-asc_left (x ∷ []) ys asc = refl
-asc_left (x ∷ y ∷ xs) ys asc =
-    let parts = and_parts (nat_lt x y) (is_ascending (y ∷ (xs ++ ys))) asc in
-    and_from (nat_lt x y) _ parts.0 (asc_left (y ∷ xs) ys parts.1)
-
-pub asc_right : (xs ys : List ℕ) → is_ascending (xs ++ ys) ≡ true → is_ascending ys ≡ true
-asc_right [] ys asc = asc
-asc_right (x ∷ xs) ys asc = asc_right xs ys (asc_tail x (xs ++ ys) asc)
 
 -- each of ascending numbers is below a later one
 first_less : (x : ℕ) (xs : List ℕ) (y : ℕ) (ys : List ℕ) → is_ascending (x ∷ (xs ++ y ∷ ys)) ≡ true → x < y

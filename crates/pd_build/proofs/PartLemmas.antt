@@ -4,9 +4,9 @@ use Rattle.std.specs.Prelude.{sum}
 use Rattle.std.proofs.Math.Seq.{take-append_seam, drop-append_seam}
 use Rattle.std.proofs.lemmas.List.{length-drop}
 use Rattle.std.proofs.lemmas.List.Sums.{sum_by-cons}
-use Rattle.pd_laid.specs.Tree.{even_parts}
-use Rattle.pd_laid.proofs.SpreadParts.{first_of}
-use Rattle.pd_build.specs.Parts.{even_sizes, cut}
+use Rattle.pd_laid.specs.Laid.{even_parts}
+use Rattle.pd_laid.proofs.LaidLemmas.{first_of}
+use Rattle.pd_build.specs.Tree.{even_sizes, cut}
 
 pub length-even : (k n : ℕ) → length (even_sizes k n) ≡ k
 unfolding even_sizes

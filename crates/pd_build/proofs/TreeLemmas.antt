@@ -5,17 +5,17 @@ use Rattle.std.specs.List.{AllByRecursion}
 use Rattle.std.proofs.lemmas.Bool.{cases_eq, eqb-true, eqb-false, ne_eqb}
 use Rattle.std.proofs.lemmas.List.{append_assoc, append-nil, map-append, nil_from_length}
 use Rattle.pd_kinds.specs.Node.{Entry, leaf_block, inner_block, max_entries, is_ascending}
-use Rattle.pd_draft.specs.Placed.{DraftState}
-use Rattle.pd_laid.specs.Tree.{heads, blocks_from, first_key, even_parts, tree_leaves, tree_blocks, tree_root, levels_above, root_above}
-use Rattle.pd_spells.specs.Need.{need_above, need_tree, nodes_for, nodes_of_tree}
-use Rattle.pd_build.proofs.OrderLemmas.{keys, asc_left, ascending_more, below_more, below_higher}
+use Rattle.pd_kinds.proofs.KindLemmas.{asc_left}
+use Rattle.pd_kinds.specs.Trees.{keys_of}
+use Rattle.pd_grammar.specs.Need.{need_above, need_tree, nodes_for, nodes_of_tree}
+use Rattle.pd_laid.specs.Laid.{heads, blocks_from, first_key, even_parts, tree_leaves, tree_blocks, tree_root, levels_above, root_above}
 use Rattle.pd_laid.proofs.NeedLemmas.{length-heads}
-use Rattle.pd_build.specs.Parts.{cut}
-use Rattle.pd_build.specs.Leaves.{LeavesLeft, items_to_come, leaves_to_come, leaf_ended, row_entry, LosesLeaf, TakesItem}
-use Rattle.pd_build.specs.Tree.{TreeLeft, leaf_number, leaves_left, blocks_left, root_left, number_left, Grows, AreKeysInOrder}
-use Rattle.pd_build.proofs.CountLemmas.{parts_none, parts_some}
 use Rattle.pd_laid.proofs.LaidLemmas.{blocks_from-append}
 use Rattle.pd_laid.proofs.Rows.{levels_one}
+use Rattle.pd_draft.specs.Closed.{DraftState}
+use Rattle.pd_build.proofs.OrderLemmas.{ascending_more, below_more, below_higher}
+use Rattle.pd_build.specs.Tree.{cut, LeavesLeft, items_to_come, leaves_to_come, leaf_ended, row_entry, LosesLeaf, TakesItem, TreeLeft, leaf_number, leaves_left, blocks_left, root_left, number_left, Grows, AreKeysInOrder}
+use Rattle.pd_build.proofs.TakesLemmas.{parts_none, parts_some}
 use Rattle.pd_build.proofs.UpperLemmas.{heads-append, root_one}
 use Rattle.pd_build.proofs.RowLemmas.{moved_by}
 
@@ -102,40 +102,40 @@ below_front P (x ∷ xs) ys all = (all.0, below_front P xs ys all.1)
 order_more : (leaves new : LeavesLeft) (hs : List Entry) (e : Entry) → AreKeysInOrder leaves hs → leaves.low ≤ e.key
     → new.begun ≡ leaves.begun ++ e ∷ [] → new.low ≡ e.key + 1 → AreKeysInOrder new hs
 order_more leaves new hs e order above begun low =
-    let all : keys (hs ++ new.begun) ≡ keys (hs ++ leaves.begun) ++ e.key ∷ [] =
-    ap (λ (b : List Entry). keys (hs ++ b)) begun
-    ∙ (ap keys (sym (append_assoc hs leaves.begun (e ∷ []))) ∙ map-append (λ (e : Entry). e.key) (hs ++ leaves.begun) (e ∷ [])) in
+    let all : keys_of (hs ++ new.begun) ≡ keys_of (hs ++ leaves.begun) ++ e.key ∷ [] =
+    ap (λ (b : List Entry). keys_of (hs ++ b)) begun
+    ∙ (ap keys_of (sym (append_assoc hs leaves.begun (e ∷ []))) ∙ map-append (λ (e : Entry). e.key) (hs ++ leaves.begun) (e ∷ [])) in
     record {
-      ascending = rw all (ascending_more (keys (hs ++ leaves.begun)) e.key order.ascending
-          (below_higher leaves.low e.key (keys (hs ++ leaves.begun)) above order.below));
-      below = rw (all, low) (below_more leaves.low e.key (keys (hs ++ leaves.begun)) above order.below);
+      ascending = rw all (ascending_more (keys_of (hs ++ leaves.begun)) e.key order.ascending
+          (below_higher leaves.low e.key (keys_of (hs ++ leaves.begun)) above order.below));
+      below = rw (all, low) (below_more leaves.low e.key (keys_of (hs ++ leaves.begun)) above order.below);
     }
 
 -- what is begun is left out
 order_cut : (leaves new : LeavesLeft) (hs : List Entry) → AreKeysInOrder leaves hs → new.begun ≡ [] → leaves.low ≤ new.low → AreKeysInOrder new hs
 order_cut leaves new hs order begun low =
-    let all : keys (hs ++ new.begun) ≡ keys hs = ap (λ (b : List Entry). keys (hs ++ b)) begun ∙ ap keys (append-nil hs) in
-    let whole : keys (hs ++ leaves.begun) ≡ keys hs ++ keys leaves.begun = map-append (λ (e : Entry). e.key) hs leaves.begun in
+    let all : keys_of (hs ++ new.begun) ≡ keys_of hs = ap (λ (b : List Entry). keys_of (hs ++ b)) begun ∙ ap keys_of (append-nil hs) in
+    let whole : keys_of (hs ++ leaves.begun) ≡ keys_of hs ++ keys_of leaves.begun = map-append (λ (e : Entry). e.key) hs leaves.begun in
     record {
-      ascending = rw all (asc_left (keys hs) (keys leaves.begun) (rw whole at order.ascending));
-      below = rw all (below_higher leaves.low new.low (keys hs) low (below_front (λ k. k < leaves.low) (keys hs) (keys leaves.begun) (rw whole at order.below)));
+      ascending = rw all (asc_left (keys_of hs) (keys_of leaves.begun) (rw whole at order.ascending));
+      below = rw all (below_higher leaves.low new.low (keys_of hs) low (below_front (λ k. k < leaves.low) (keys_of hs) (keys_of leaves.begun) (rw whole at order.below)));
     }
 
 -- the first of what is begun becomes a head
 order_head : (new : LeavesLeft) (hs part : List Entry) (key value low : ℕ) → 1 ≤ length part → key ≡ first_key part
-    → is_ascending (keys (hs ++ part)) ≡ true → AllByRecursion (λ k. k < low) (keys (hs ++ part)) → new.begun ≡ [] → new.low ≡ low
+    → is_ascending (keys_of (hs ++ part)) ≡ true → AllByRecursion (λ k. k < low) (keys_of (hs ++ part)) → new.begun ≡ [] → new.low ≡ low
     → AreKeysInOrder new (hs ++ record { key = key; value = value } ∷ [])
 order_head new hs [] key value low some is asc below begun raised = absurd (omega arith)
 order_head new hs (e ∷ part) key value low some is asc below begun raised =
     let row = hs ++ record { key = key; value = value } ∷ [] in
-    let all : keys (row ++ new.begun) ≡ keys hs ++ e.key ∷ [] =
-    ap (λ (b : List Entry). keys (row ++ b)) begun ∙ (ap keys (append-nil row)
-    ∙ (map-append (λ (e : Entry). e.key) hs (record { key = key; value = value } ∷ []) ∙ ap (λ (k : ℕ). keys hs ++ k ∷ []) is)) in
-    let whole : keys (hs ++ e ∷ part) ≡ (keys hs ++ e.key ∷ []) ++ keys part =
-    map-append (λ (e : Entry). e.key) hs (e ∷ part) ∙ sym (append_assoc (keys hs) (e.key ∷ []) (keys part)) in
+    let all : keys_of (row ++ new.begun) ≡ keys_of hs ++ e.key ∷ [] =
+    ap (λ (b : List Entry). keys_of (row ++ b)) begun ∙ (ap keys_of (append-nil row)
+    ∙ (map-append (λ (e : Entry). e.key) hs (record { key = key; value = value } ∷ []) ∙ ap (λ (k : ℕ). keys_of hs ++ k ∷ []) is)) in
+    let whole : keys_of (hs ++ e ∷ part) ≡ (keys_of hs ++ e.key ∷ []) ++ keys_of part =
+    map-append (λ (e : Entry). e.key) hs (e ∷ part) ∙ sym (append_assoc (keys_of hs) (e.key ∷ []) (keys_of part)) in
     record {
-      ascending = rw all (asc_left (keys hs ++ e.key ∷ []) (keys part) (rw whole at asc));
-      below = rw (all, raised) (below_front (λ k. k < low) (keys hs ++ e.key ∷ []) (keys part) (rw whole at below));
+      ascending = rw all (asc_left (keys_of hs ++ e.key ∷ []) (keys_of part) (rw whole at asc));
+      below = rw (all, raised) (below_front (λ k. k < low) (keys_of hs ++ e.key ∷ []) (keys_of part) (rw whole at below));
     }
 
 first_head_is : (place key value : ℕ) (part : List Entry) → heads place (part ∷ []) ≡ record { key = key; value = value } ∷ [] → first_key part ≡ key

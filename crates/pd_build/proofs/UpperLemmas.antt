@@ -5,21 +5,19 @@ use Rattle.std.proofs.Math.Seq.{take-suc, take-suc-set, take-append_seam}
 use Rattle.std.proofs.lemmas.Bool.{cases_lt, lt-ltb, le-ltb}
 use Rattle.std.proofs.lemmas.List.{append_assoc, append-nil, map-append, length-map, length-drop, length-take-le, drop-drop, take_all, take-append-drop}
 use Rattle.pd_kinds.specs.Node.{Entry, is_ascending, inner_block}
-use Rattle.pd_node.specs.Items.{keys_of}
-use Rattle.pd_draft.specs.Closed.{IsClosed}
-use Rattle.pd_draft.specs.Placed.{DraftState, Wrote}
-use Rattle.pd_laid.specs.Tree.{even_parts, heads, blocks_from, first_key, levels_above, first_place, root_above}
-use Rattle.pd_spells.specs.Need.{nodes_for, need_above}
-use Rattle.pd_laid.proofs.SpreadLemmas.{length-spread}
-use Rattle.pd_build.proofs.OrderLemmas.{keys, asc_left, asc_right, heads_ascend}
+use Rattle.pd_kinds.proofs.KindLemmas.{asc_left, asc_right}
+use Rattle.pd_kinds.specs.Trees.{keys_of as keys}
+use Rattle.pd_grammar.specs.Need.{nodes_for, need_above}
+use Rattle.pd_laid.specs.Laid.{even_parts, heads, blocks_from, first_key, levels_above, first_place, root_above}
+use Rattle.pd_laid.proofs.LaidLemmas.{length-spread}
 use Rattle.pd_laid.proofs.NeedLemmas.{length-heads}
 use Rattle.pd_laid.proofs.Rows.{levels_one, levels_more, first_head}
-use Rattle.pd_build.proofs.RowLemmas.{moved_by, rows_then, row_next, wrote_nothing}
-use Rattle.pd_build.proofs.SpreadLemmas.{level_spread}
-use Rattle.pd_build.specs.Leaves.{AreCounts}
-use Rattle.pd_build.specs.Rows.{link_entries}
-use Rattle.pd_build.proofs.CountLemmas.{IsEndOf, end_of, parts_some, nodes_at}
-use Rattle.pd_build.proofs.NeedLemmas.{need_more}
+use Rattle.pd_node.specs.Items.{keys_of}
+use Rattle.pd_draft.specs.Closed.{IsClosed, DraftState, Wrote}
+use Rattle.pd_build.proofs.OrderLemmas.{heads_ascend}
+use Rattle.pd_build.proofs.RowLemmas.{moved_by, rows_then, row_next, wrote_nothing, level_spread, need_more}
+use Rattle.pd_build.specs.Tree.{AreCounts, link_entries}
+use Rattle.pd_build.proofs.TakesLemmas.{IsEndOf, end_of, parts_some, nodes_at}
 
 -- where a level is half written: the first parts of the level below were used up
 pub record IsHalf (nodes : ℕ) (all : List Entry) (i used : ℕ) : Type 0 where

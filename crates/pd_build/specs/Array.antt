@@ -1,10 +1,9 @@
 -- What a builder of an array still writes.
 use Rattle.std.specs.Prelude.{◌≡◌, ℕ, ◌+◌, ◌-◌, ◌≤◌, List, ◌∷◌, ◌++◌, length}
 use Rattle.pd_kinds.specs.Array.{array_block, max_words}
-use Rattle.pd_draft.specs.Placed.{DraftState, Wrote}
-use Rattle.pd_spells.specs.Need.{nodes_for, need_tree}
-use Rattle.pd_laid.specs.Tree.{blocks_from, tree_blocks, tree_root}
-use Rattle.pd_laid.specs.Array.{pieces, array_items, array_pieces}
+use Rattle.pd_grammar.specs.Need.{nodes_for, need_tree}
+use Rattle.pd_laid.specs.Laid.{blocks_from, tree_blocks, tree_root, pieces, array_items, array_pieces}
+use Rattle.pd_draft.specs.Closed.{DraftState, Wrote}
 
 -- all blocks of an array from a place on: what is written of a laid one
 unfoldable pub array_blocks : ℕ → ℕ → List ℕ → List (List ℕ)

@@ -1,7 +1,3 @@
-pub mod Array
-pub mod Building
-pub mod Causes
-pub mod Leaves
-pub mod Parts
-pub mod Rows
 pub mod Tree
+pub mod Building
+pub mod Array

@@ -1,18 +1,17 @@
 //! Arrays.
 
-ghost use Rattle.std.specs.Prelude.{◌≡◌, ℕ, ◌+◌, ◌-◌, ◌<◌, ◌≤◌, ◌^◌, EachIndex, List, [], ◌∷◌, ◌++◌, length, slice_index, OnOk, OnErr, IfOk, IfErr, vec_len, IsTrue, ◌↔◌, ◌⊎◌};
+ghost use Rattle.std.specs.Prelude.{◌≡◌, ℕ, ◌+◌, ◌-◌, ◌<◌, ◌≤◌, ◌^◌, EachIndex, List, [], ◌∷◌, ◌++◌, length};
+ghost use Rattle.std.specs.Prelude.{slice_index, OnOk, OnErr, IfOk, IfErr, vec_len, IsTrue, ◌↔◌, ◌⊎◌};
 ghost use Rattle.std.specs.List.{All};
 ghost use Rattle.pd_kinds.specs.Array.{array_block, max_words};
+ghost use Rattle.pd_grammar.specs.Need.{need_array, need_tree};
+ghost use Rattle.pd_laid.specs.Laid.{tree_blocks, tree_root, array_items, array_root};
 ghost use Rattle.pd_array.specs.Word.{size_of};
 ghost use Rattle.pd_image.specs.Device.{IsWritable};
-ghost use Rattle.pd_draft.specs.Closed.{IsClosed, StaysClosed};
-ghost use Rattle.pd_draft.specs.Placed.{Wrote};
+ghost use Rattle.pd_draft.specs.Closed.{IsClosed, StaysClosed, Wrote};
 ghost use Rattle.pd_draft.specs.DraftState.{draft_state};
-ghost use Rattle.pd_laid.specs.Tree.{tree_blocks, tree_root};
-ghost use Rattle.pd_spells.specs.Need.{need_array, need_tree};
-ghost use Rattle.pd_laid.specs.Array.{array_items, array_root};
 ghost use Rattle.pd_build.specs.Array.{ArrayLeft, Pushes, array_blocks, array_left, array_number, array_root_left};
-ghost use Rattle.pd_build.specs.Causes.{CountsBuildFault};
+ghost use Rattle.pd_build.specs.Building.{CountsBuildFault};
 
 use crate::steps::put_block;
 use crate::{BuildFault, Builder};
@@ -53,8 +52,10 @@ impl ArrayBuilder {
         ensures size { IfOk result (λ b. b.size ≡ size_of word) }
         ensures left { IfOk result (λ b. b.words.left ≡ len) }
         ensures made { IfOk result (λ b. b.words.made ≡ 0) }
-        ensures blocks { IfOk result (λ b. (place : ℕ) (words : List ℕ) → length words ≡ len → array_left (size_of word) place b.words words ≡ array_blocks (size_of word) place words) }
-        ensures root { IfOk result (λ b. (place : ℕ) (words : List ℕ) → length words ≡ len → array_root_left (size_of word) place b.words words ≡ array_root (size_of word) place words) }
+        ensures blocks { IfOk result (λ b. (place : ℕ) (words : List ℕ) → length words ≡ len
+            → array_left (size_of word) place b.words words ≡ array_blocks (size_of word) place words) }
+        ensures root { IfOk result (λ b. (place : ℕ) (words : List ℕ) → length words ≡ len
+            → array_root_left (size_of word) place b.words words ≡ array_root (size_of word) place words) }
         ensures number { IfOk result (λ b. array_number (size_of word) b.words ≡ need_array (size_of word) len) }
     {
         let begun = Vec::with_capacity(alloc, word.max_words())?;
@@ -82,7 +83,8 @@ impl ArrayBuilder {
         requires closed { IsClosed (draft_state draft.old).device }
         ensures same_reference { draft.new.dev.ghost_name ≡ draft.old.dev.ghost_name }
         ensures size { self.new.size ≡ self.old.size }
-        ensures pushes { OnOk result (Pushes self.old.size value self.old.words self.new.words (draft_state draft.old) (draft_state draft.new)) }
+        ensures pushes { OnOk result (Pushes self.old.size value self.old.words self.new.words (draft_state draft.old)
+            (draft_state draft.new)) }
         ensures closed { StaysClosed (draft_state draft.old).device (draft_state draft.new).device }
         ensures faults { CountsBuildFault result (draft_state draft.old).device.faults (draft_state draft.new).device.faults }
     {
@@ -106,7 +108,8 @@ impl ArrayBuilder {
         requires room { draft.old.next + array_number self.size self.words ≤ (draft_state draft.old).device.blocks }
         requires closed { IsClosed (draft_state draft.old).device }
         ensures same_reference { draft.new.dev.ghost_name ≡ draft.old.dev.ghost_name }
-        ensures wrote { OnOk result (Wrote (array_left self.size draft.old.next self.words []) (draft_state draft.old) (draft_state draft.new)) }
+        ensures wrote { OnOk result (Wrote (array_left self.size draft.old.next self.words []) (draft_state draft.old)
+            (draft_state draft.new)) }
         ensures root { IfOk result (λ root. root ≡ array_root_left self.size draft.old.next self.words []) }
         ensures closed { StaysClosed (draft_state draft.old).device (draft_state draft.new).device }
         ensures faults { CountsBuildFault result (draft_state draft.old).device.faults (draft_state draft.new).device.faults }
@@ -147,7 +150,8 @@ fn put_words<D: Device>(
     requires room { draft.old.next < (draft_state draft.old).device.blocks }
     requires closed { IsClosed (draft_state draft.old).device }
     ensures same_reference { draft.new.dev.ghost_name ≡ draft.old.dev.ghost_name }
-    ensures wrote { OnOk result (Wrote (array_block (size_of word) draft.old.next words.now ∷ []) (draft_state draft.old) (draft_state draft.new)) }
+    ensures wrote { OnOk result (Wrote (array_block (size_of word) draft.old.next words.now ∷ []) (draft_state draft.old)
+        (draft_state draft.new)) }
     ensures closed { StaysClosed (draft_state draft.old).device (draft_state draft.new).device }
     ensures faults { CountsBuildFault result (draft_state draft.old).device.faults (draft_state draft.new).device.faults }
 {
@@ -166,7 +170,8 @@ fn write_index<D: Device>(
     requires stood { count ≤ draft.old.next }
     requires closed { IsClosed (draft_state draft.old).device }
     ensures same_reference { draft.new.dev.ghost_name ≡ draft.old.dev.ghost_name }
-    ensures wrote { OnOk result (Wrote (tree_blocks 8 draft.old.next (array_items (draft.old.next - count) count)) (draft_state draft.old) (draft_state draft.new)) }
+    ensures wrote { OnOk result (Wrote (tree_blocks 8 draft.old.next (array_items (draft.old.next - count) count)) (draft_state draft.old)
+        (draft_state draft.new)) }
     ensures root { IfOk result (λ root. root ≡ tree_root 8 draft.old.next (array_items (draft.old.next - count) count)) }
     ensures closed { StaysClosed (draft_state draft.old).device (draft_state draft.new).device }
     ensures faults { CountsBuildFault result (draft_state draft.old).device.faults (draft_state draft.new).device.faults }

@@ -1,16 +1,15 @@
 //! A whole tree.
 
-ghost use Rattle.std.specs.Prelude.{◌≡◌, ℕ, ◌+◌, ◌-◌, ◌<◌, ◌≤◌, List, [], ◌++◌, length, true, OnOk, OnErr, IfOk, IfErr};
+ghost use Rattle.std.specs.Prelude.{◌≡◌, ℕ, ◌+◌, ◌≤◌, List, [], ◌++◌, length, true, OnOk, OnErr, IfOk, IfErr};
 ghost use Rattle.pd_kinds.specs.Node.{Entry};
+ghost use Rattle.pd_grammar.specs.Need.{need_tree};
+ghost use Rattle.pd_laid.specs.Laid.{tree_blocks, tree_root};
 ghost use Rattle.pd_image.specs.Device.{IsWritable};
-ghost use Rattle.pd_draft.specs.Closed.{IsClosed, StaysClosed};
-ghost use Rattle.pd_draft.specs.Placed.{Wrote};
+ghost use Rattle.pd_draft.specs.Closed.{IsClosed, StaysClosed, Wrote};
 ghost use Rattle.pd_draft.specs.DraftState.{draft_state};
-ghost use Rattle.pd_laid.specs.Tree.{tree_blocks, tree_root};
-ghost use Rattle.pd_spells.specs.Need.{need_tree};
-ghost use Rattle.pd_build.specs.Leaves.{items_to_come, size_of_first, row_entry};
-ghost use Rattle.pd_build.specs.Tree.{TreeLeft, Grows, AreKeysInOrder, blocks_left, root_left, number_left};
-ghost use Rattle.pd_build.specs.Causes.{CountsBuildFault};
+ghost use Rattle.pd_build.specs.Tree.{items_to_come, size_of_first, row_entry, TreeLeft, Grows};
+ghost use Rattle.pd_build.specs.Tree.{AreKeysInOrder, blocks_left, root_left, number_left};
+ghost use Rattle.pd_build.specs.Building.{CountsBuildFault};
 
 use crate::steps::put_block;
 use crate::{BuildFault, LeafBuilder, UpperBuilder};
@@ -40,8 +39,10 @@ impl<V: Value> Model for Builder<V> {
 impl<V: Value> Builder<V> {
     /// A tree of `n` items, in the order of their keys. Without items it is one empty leaf.
     pub fn new(alloc: Global, n: u64) -> Result<Builder<V>, AllocError>
-        ensures blocks { IfOk result (λ b. (place : ℕ) (items : List Entry) → length items ≡ n → blocks_left V.SIZE place b items ≡ tree_blocks V.SIZE place items) }
-        ensures root { IfOk result (λ b. (place : ℕ) (items : List Entry) → length items ≡ n → root_left place b items ≡ tree_root V.SIZE place items) }
+        ensures blocks { IfOk result (λ b. (place : ℕ) (items : List Entry)
+            → length items ≡ n → blocks_left V.SIZE place b items ≡ tree_blocks V.SIZE place items) }
+        ensures root { IfOk result (λ b. (place : ℕ) (items : List Entry)
+            → length items ≡ n → root_left place b items ≡ tree_root V.SIZE place items) }
         ensures items { IfOk result (λ b. items_to_come b.leaves ≡ n) }
         ensures room { IfOk result (λ b. number_left b ≡ need_tree V.SIZE n) }
         ensures low { IfOk result (λ b. b.leaves.low ≡ 0) }
@@ -68,7 +69,8 @@ impl<V: Value> Builder<V> {
         requires room { draft.old.next + number_left self.old ≤ (draft_state draft.old).device.blocks }
         requires closed { IsClosed (draft_state draft.old).device }
         ensures same_reference { draft.new.dev.ghost_name ≡ draft.old.dev.ghost_name }
-        ensures grows { OnOk result (Grows V.SIZE (record { key = key; value = V.code value }) self.old self.new (draft_state draft.old) (draft_state draft.new)) }
+        ensures grows { OnOk result (Grows V.SIZE (record { key = key; value = V.code value }) self.old self.new (draft_state draft.old)
+            (draft_state draft.new)) }
         ensures closed { StaysClosed (draft_state draft.old).device (draft_state draft.new).device }
         ensures faults { CountsBuildFault result (draft_state draft.old).device.faults (draft_state draft.new).device.faults }
     {
@@ -94,7 +96,8 @@ impl<V: Value> Builder<V> {
         requires room { draft.old.next + number_left self.old ≤ (draft_state draft.old).device.blocks }
         requires closed { IsClosed (draft_state draft.old).device }
         ensures same_reference { draft.new.dev.ghost_name ≡ draft.old.dev.ghost_name }
-        ensures grows { OnOk result (Grows V.SIZE (record { key = key; value = V.code value }) self.old self.new (draft_state draft.old) (draft_state draft.new)) }
+        ensures grows { OnOk result (Grows V.SIZE (record { key = key; value = V.code value }) self.old self.new (draft_state draft.old)
+            (draft_state draft.new)) }
         ensures closed { StaysClosed (draft_state draft.old).device (draft_state draft.new).device }
         ensures faults { CountsBuildFault result (draft_state draft.old).device.faults (draft_state draft.new).device.faults }
     {

@@ -1,17 +1,16 @@
 //! The leaves of a tree.
 
-ghost use Rattle.std.specs.Prelude.{◌≡◌, ◌+◌, ◌-◌, ◌*◌, ◌<◌, ◌≤◌, List, [], length, true, false, None, OnErr, IfOk, nat_eq};
+ghost use Rattle.std.specs.Prelude.{◌≡◌, ◌+◌, ◌≤◌, List, [], length, true, false, None, OnErr, IfOk, nat_eq};
 ghost use Rattle.pd_kinds.specs.Node.{Entry, max_entries};
+ghost use Rattle.pd_grammar.specs.Need.{nodes_for};
+ghost use Rattle.pd_laid.specs.Laid.{tree_leaves};
+ghost use Rattle.pd_node.specs.Items.{IsBegun, entries_in};
 ghost use Rattle.pd_image.specs.Device.{IsWritable};
-ghost use Rattle.pd_draft.specs.Closed.{IsClosed, StaysClosed};
-ghost use Rattle.pd_draft.specs.Placed.{DraftState};
+ghost use Rattle.pd_draft.specs.Closed.{IsClosed, StaysClosed, DraftState};
 ghost use Rattle.pd_draft.specs.DraftState.{draft_state};
-ghost use Rattle.pd_spells.specs.Need.{nodes_for};
-ghost use Rattle.pd_laid.specs.Tree.{tree_leaves};
-ghost use Rattle.pd_node.specs.OpenLeaf.{IsBegun, entries_in};
-ghost use Rattle.pd_build.specs.Parts.{even_sizes};
-ghost use Rattle.pd_build.specs.Leaves.{LeavesLeft, items_to_come, leaves_to_come, size_of_first, TakesItem, AreCounts, low_of, low_after, LosesLeaf};
-ghost use Rattle.pd_build.specs.Causes.{CountsBuildFault};
+ghost use Rattle.pd_build.specs.Tree.{even_sizes, LeavesLeft, items_to_come, leaves_to_come, size_of_first};
+ghost use Rattle.pd_build.specs.Tree.{TakesItem, AreCounts, low_of, low_after, LosesLeaf};
+ghost use Rattle.pd_build.specs.Building.{CountsBuildFault};
 
 use crate::BuildFault;
 use crate::steps::{parts, put_block};
@@ -45,7 +44,12 @@ pub struct LeafBuilder<V: Value> {
 impl<V: Value> Model for LeafBuilder<V> {
     ghost Value = { LeavesLeft };
 
-    ghost view = { λ b. record { sizes = even_sizes b.leaves b.items; begun = entries_in V.SIZE b.block.value.0 b.count; low = low_after (low_of b.last) (entries_in V.SIZE b.block.value.0 b.count) } };
+    ghost view = { λ b. record {
+      sizes = even_sizes b.leaves b.items;
+      begun = entries_in V.SIZE b.block.value.0 b.count;
+      low = low_after
+          (low_of b.last) (entries_in V.SIZE b.block.value.0 b.count);
+    } };
 
     ghost invariant = { λ b. AreCounts (max_entries V.SIZE) b.leaves b.items b.size b.count
         × IsBegun V.SIZE b.block.value.0 b.count };
@@ -54,7 +58,8 @@ impl<V: Value> Model for LeafBuilder<V> {
 impl<V: Value> LeafBuilder<V> {
     /// The leaves of `n` items, in the order of their keys. Without items there are none.
     pub fn new(alloc: Global, n: u64) -> Result<LeafBuilder<V>, AllocError>
-        ensures leaves { 1 ≤ n → IfOk result (λ b. (items : List Entry) → length items ≡ n → leaves_to_come b items ≡ tree_leaves V.SIZE items) }
+        ensures leaves { 1 ≤ n → IfOk result (λ b. (items : List Entry)
+            → length items ≡ n → leaves_to_come b items ≡ tree_leaves V.SIZE items) }
         ensures items { IfOk result (λ b. items_to_come b ≡ n) }
         ensures number { IfOk result (λ b. length b.sizes ≡ nodes_for (max_entries V.SIZE) n) }
         ensures low { IfOk result (λ b. b.low ≡ 0) }
@@ -97,7 +102,8 @@ impl<V: Value> LeafBuilder<V> {
         requires room { draft.old.next + length self.old.sizes ≤ (draft_state draft.old).device.blocks }
         requires closed { IsClosed (draft_state draft.old).device }
         ensures same_reference { draft.new.dev.ghost_name ≡ draft.old.dev.ghost_name }
-        ensures takes { IfOk result (λ head. TakesItem V.SIZE (record { key = key; value = V.code value }) head self.old self.new (draft_state draft.old) (draft_state draft.new)) }
+        ensures takes { IfOk result (λ head. TakesItem V.SIZE (record { key = key; value = V.code value }) head self.old self.new
+            (draft_state draft.old) (draft_state draft.new)) }
         ensures lost { OnErr result (LosesLeaf self.old (record { key = key; value = V.code value }) self.new) }
         ensures closed { StaysClosed (draft_state draft.old).device (draft_state draft.new).device }
         ensures faults { CountsBuildFault result (draft_state draft.old).device.faults (draft_state draft.new).device.faults }
@@ -113,7 +119,8 @@ impl<V: Value> LeafBuilder<V> {
     pub(crate) fn hold(&mut self, key: u64, value: V) -> bool
         requires fits { V.fitting value ≡ true }
         requires more { 1 ≤ items_to_come self.old }
-        ensures held { result ≡ true → (now : DraftState) → IsClosed now.device → TakesItem V.SIZE (record { key = key; value = V.code value }) None self.old self.new now now }
+        ensures held { result ≡ true → (now : DraftState) → IsClosed now.device
+            → TakesItem V.SIZE (record { key = key; value = V.code value }) None self.old self.new now now }
         ensures kept { result ≡ false → self.new ≡ self.old }
         ensures last { result ≡ false → length self.old.begun + 1 ≡ size_of_first self.old.sizes }
     {
@@ -141,7 +148,8 @@ impl<V: Value> LeafBuilder<V> {
         requires room { draft.old.next + length self.old.sizes ≤ (draft_state draft.old).device.blocks }
         requires closed { IsClosed (draft_state draft.old).device }
         ensures same_reference { draft.new.dev.ghost_name ≡ draft.old.dev.ghost_name }
-        ensures takes { IfOk result (λ head. TakesItem V.SIZE (record { key = key; value = V.code value }) head self.old self.new (draft_state draft.old) (draft_state draft.new)) }
+        ensures takes { IfOk result (λ head. TakesItem V.SIZE (record { key = key; value = V.code value }) head self.old self.new
+            (draft_state draft.old) (draft_state draft.new)) }
         ensures lost { OnErr result (LosesLeaf self.old (record { key = key; value = V.code value }) self.new) }
         ensures closed { StaysClosed (draft_state draft.old).device (draft_state draft.new).device }
         ensures faults { CountsBuildFault result (draft_state draft.old).device.faults (draft_state draft.new).device.faults }

@@ -1,12 +1,11 @@
 //! Steps that the builders share.
 
-ghost use Rattle.std.specs.Prelude.{◌≡◌, ◌+◌, ◌<◌, ◌≤◌, [], ◌∷◌, OnOk, IfErr};
+ghost use Rattle.std.specs.Prelude.{◌≡◌, ◌<◌, ◌≤◌, [], ◌∷◌, OnOk, IfErr};
+ghost use Rattle.pd_grammar.specs.Need.{nodes_for};
 ghost use Rattle.pd_image.specs.Device.{IsWritable};
-ghost use Rattle.pd_draft.specs.Closed.{IsClosed, StaysClosed};
-ghost use Rattle.pd_draft.specs.Placed.{Wrote};
+ghost use Rattle.pd_draft.specs.Closed.{IsClosed, StaysClosed, Wrote};
 ghost use Rattle.pd_draft.specs.DraftState.{draft_state};
-ghost use Rattle.pd_spells.specs.Need.{nodes_for};
-ghost use Rattle.pd_build.specs.Causes.{CountsBuildFault};
+ghost use Rattle.pd_build.specs.Building.{CountsBuildFault};
 
 use crate::BuildFault;
 use pd_draft::Draft;

@@ -1,16 +1,16 @@
 //! The levels above a row of nodes.
 
-ghost use Rattle.std.specs.Prelude.{◌≡◌, ◌+◌, ◌-◌, ◌*◌, ◌<◌, ◌≤◌, List, [], ◌∷◌, ◌++◌, length, map, take, true, OnOk, OnErr, IfOk, IfErr, nat_eq};
+ghost use Rattle.std.specs.Prelude.{◌≡◌, ◌+◌, ◌-◌, ◌*◌, ◌<◌, ◌≤◌, List, [], ◌∷◌, ◌++◌, length, map};
+ghost use Rattle.std.specs.Prelude.{take, true, OnOk, OnErr, IfOk, IfErr, nat_eq};
 ghost use Rattle.pd_kinds.specs.Node.{Entry, is_ascending, inner_block};
+ghost use Rattle.pd_grammar.specs.Need.{need_above, nodes_of_tree};
+ghost use Rattle.pd_laid.specs.Laid.{blocks_from, heads, even_parts, levels_above, root_above};
 ghost use Rattle.pd_node.specs.Items.{keys_of};
 ghost use Rattle.pd_image.specs.Device.{IsWritable};
-ghost use Rattle.pd_draft.specs.Closed.{IsClosed, StaysClosed};
-ghost use Rattle.pd_draft.specs.Placed.{Wrote};
+ghost use Rattle.pd_draft.specs.Closed.{IsClosed, StaysClosed, Wrote};
 ghost use Rattle.pd_draft.specs.DraftState.{draft_state};
-ghost use Rattle.pd_laid.specs.Tree.{blocks_from, heads, even_parts, levels_above, root_above};
-ghost use Rattle.pd_spells.specs.Need.{need_above};
-ghost use Rattle.pd_build.specs.Rows.{link_entries};
-ghost use Rattle.pd_build.specs.Causes.{CountsBuildFault};
+ghost use Rattle.pd_build.specs.Tree.{link_entries};
+ghost use Rattle.pd_build.specs.Building.{CountsBuildFault};
 
 use crate::BuildFault;
 use crate::steps::{parts, put_block};
@@ -67,7 +67,8 @@ impl UpperBuilder {
         requires room { draft.old.next + need_above 10 (length self) ≤ (draft_state draft.old).device.blocks }
         requires closed { IsClosed (draft_state draft.old).device }
         ensures same_reference { draft.new.dev.ghost_name ≡ draft.old.dev.ghost_name }
-        ensures wrote { OnOk result (Wrote (blocks_from inner_block draft.old.next (levels_above 10 draft.old.next self)) (draft_state draft.old) (draft_state draft.new)) }
+        ensures wrote { OnOk result (Wrote (blocks_from inner_block draft.old.next (levels_above 10 draft.old.next self))
+            (draft_state draft.old) (draft_state draft.new)) }
         ensures root { IfOk result (λ root. root ≡ root_above draft.old.next self) }
         ensures closed { StaysClosed (draft_state draft.old).device (draft_state draft.new).device }
         ensures faults { CountsBuildFault result (draft_state draft.old).device.faults (draft_state draft.new).device.faults }
@@ -97,8 +98,10 @@ fn write_level<D: Device>(
     requires room { draft.old.next + nodes ≤ (draft_state draft.old).device.blocks }
     requires closed { IsClosed (draft_state draft.old).device }
     ensures same_reference { draft.new.dev.ghost_name ≡ draft.old.dev.ghost_name }
-    ensures heads_are { OnOk result (link_entries (take nodes level.new) ≡ heads draft.old.next (even_parts nodes (link_entries level.old))) }
-    ensures wrote { OnOk result (Wrote (blocks_from inner_block draft.old.next (even_parts nodes (link_entries level.old))) (draft_state draft.old) (draft_state draft.new)) }
+    ensures heads_are { OnOk result (link_entries (take nodes level.new)
+        ≡ heads draft.old.next (even_parts nodes (link_entries level.old))) }
+    ensures wrote { OnOk result (Wrote (blocks_from inner_block draft.old.next (even_parts nodes (link_entries level.old)))
+        (draft_state draft.old) (draft_state draft.new)) }
     ensures closed { StaysClosed (draft_state draft.old).device (draft_state draft.new).device }
     ensures faults { CountsBuildFault result (draft_state draft.old).device.faults (draft_state draft.new).device.faults }
     ensures fault { IfErr result (λ fault. fault ≡ BuildFault.Device) }
@@ -126,7 +129,8 @@ fn write_node<D: Device>(
     requires room { draft.old.next < (draft_state draft.old).device.blocks }
     requires closed { IsClosed (draft_state draft.old).device }
     ensures same_reference { draft.new.dev.ghost_name ≡ draft.old.dev.ghost_name }
-    ensures wrote { OnOk result (Wrote (inner_block draft.old.next (link_entries children.now) ∷ []) (draft_state draft.old) (draft_state draft.new)) }
+    ensures wrote { OnOk result (Wrote (inner_block draft.old.next (link_entries children.now) ∷ []) (draft_state draft.old)
+        (draft_state draft.new)) }
     ensures place { IfOk result (λ place. place ≡ draft.old.next) }
     ensures closed { StaysClosed (draft_state draft.old).device (draft_state draft.new).device }
     ensures faults { CountsBuildFault result (draft_state draft.old).device.faults (draft_state draft.new).device.faults }
@@ -136,4 +140,31 @@ fn write_node<D: Device>(
     let block = write_inner(place, children);
     put_block(draft, &block)?;
     Ok(place)
+}
+
+// How many nodes a tree has.
+
+/// How many nodes stand above so many leaves: none above one.
+pub fn need_upper(leaves: u64) -> u64
+    requires { 1 ≤ leaves }
+    ensures count { result ≡ need_above 10 leaves }
+    ensures fewer { result + 1 ≤ leaves }
+{
+    let mut nodes = leaves;
+    let mut need = 0;
+    while nodes > 1 {
+        nodes = parts(nodes, 252);
+        need += nodes;
+    }
+    need
+}
+
+/// How many nodes a tree of `n` entries has, where a leaf has room for `max`. One without entries has a leaf.
+#[tactic(auto, unfolding(pd_grammar::specs::Need::nodes_of_tree))]
+pub fn need_tree(n: u64, max: u64) -> u64
+    requires { 2 ≤ max }
+    ensures { result ≡ nodes_of_tree max n }
+{
+    let leaves = parts(n, max).max(1);
+    leaves + need_upper(leaves)
 }

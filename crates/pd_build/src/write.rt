@@ -3,15 +3,13 @@
 ghost use Rattle.std.specs.Prelude.{◌≡◌, ◌+◌, ◌≤◌, [], length, true, OnOk, IfOk};
 ghost use Rattle.std.specs.List.{All};
 ghost use Rattle.pd_kinds.specs.Node.{is_ascending};
+ghost use Rattle.pd_grammar.specs.Need.{need_tree};
+ghost use Rattle.pd_laid.specs.Laid.{tree_blocks, tree_root};
 ghost use Rattle.pd_node.specs.Items.{entries_of, keys_of};
 ghost use Rattle.pd_image.specs.Device.{IsWritable};
-ghost use Rattle.pd_draft.specs.Closed.{IsClosed, StaysClosed};
-ghost use Rattle.pd_draft.specs.Placed.{Wrote};
+ghost use Rattle.pd_draft.specs.Closed.{IsClosed, StaysClosed, Wrote};
 ghost use Rattle.pd_draft.specs.DraftState.{draft_state};
-ghost use Rattle.pd_laid.specs.Tree.{tree_blocks, tree_root};
-ghost use Rattle.pd_spells.specs.Need.{need_tree};
-ghost use Rattle.pd_build.specs.Building.{IsBuilding};
-ghost use Rattle.pd_build.specs.Causes.{CountsBuildFault};
+ghost use Rattle.pd_build.specs.Building.{IsBuilding, CountsBuildFault};
 
 use crate::{BuildFault, Builder};
 use pd_draft::Draft;
@@ -31,7 +29,8 @@ pub fn write_tree<V: Value, D: Device>(
     requires room { draft.old.next + need_tree V.SIZE (length items.now) ≤ (draft_state draft.old).device.blocks }
     requires closed { IsClosed (draft_state draft.old).device }
     ensures same_reference { draft.new.dev.ghost_name ≡ draft.old.dev.ghost_name }
-    ensures wrote { OnOk result (Wrote (tree_blocks V.SIZE draft.old.next (entries_of V.code items.now)) (draft_state draft.old) (draft_state draft.new)) }
+    ensures wrote { OnOk result (Wrote (tree_blocks V.SIZE draft.old.next (entries_of V.code items.now)) (draft_state draft.old)
+        (draft_state draft.new)) }
     ensures root { IfOk result (λ root. root ≡ tree_root V.SIZE draft.old.next (entries_of V.code items.now)) }
     ensures closed { StaysClosed (draft_state draft.old).device (draft_state draft.new).device }
     ensures faults { CountsBuildFault result (draft_state draft.old).device.faults (draft_state draft.new).device.faults }
@@ -47,12 +46,14 @@ fn put_items<V: Value, D: Device>(
     draft: &mut Draft<'_, D>,
     items: &[(u64, V)],
 ) -> Result<(), BuildFault>
-    requires building { IsBuilding V.SIZE (entries_of V.code items.now) (entries_of V.code items.now) builder.old (draft_state draft.old) (draft_state draft.old) }
+    requires building { IsBuilding V.SIZE (entries_of V.code items.now) (entries_of V.code items.now) builder.old (draft_state draft.old)
+        (draft_state draft.old) }
     requires fit { All (λ item. V.fitting item.1 ≡ true) items.now }
     requires writable { IsWritable (draft_state draft.old).device }
     requires room { draft.old.next + need_tree V.SIZE (length items.now) ≤ (draft_state draft.old).device.blocks }
     ensures same_reference { draft.new.dev.ghost_name ≡ draft.old.dev.ghost_name }
-    ensures building { OnOk result (IsBuilding V.SIZE (entries_of V.code items.now) [] builder.new (draft_state draft.old) (draft_state draft.new)) }
+    ensures building { OnOk result (IsBuilding V.SIZE (entries_of V.code items.now) [] builder.new (draft_state draft.old)
+        (draft_state draft.new)) }
     ensures closed { StaysClosed (draft_state draft.old).device (draft_state draft.new).device }
     ensures faults { CountsBuildFault result (draft_state draft.old).device.faults (draft_state draft.new).device.faults }
 {

@@ -1,4 +1,3 @@
-pub mod WordLemmas
 pub mod MeetLemmas
 pub mod WholeLemmas
-pub mod ReadyLemmas
+pub mod WordLemmas

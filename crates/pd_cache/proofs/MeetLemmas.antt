@@ -6,21 +6,20 @@ use Rattle.std.proofs.lemmas.Bool.{cases_eq, cases_lt, lt-ltb, ne_eqb, or_cases,
 use Rattle.std.proofs.lemmas.Grind.{flat_map-append}
 use Rattle.pd_kinds.specs.Graph.{block_at}
 use Rattle.pd_kinds.specs.Whole.{has_repeat}
+use Rattle.pd_kinds.proofs.NumberLemmas.{same_test}
 use Rattle.pd_graph.specs.declared.audit.Audit.{Audit}
 use Rattle.pd_graph.specs.Audit.{blocks_of, roles_at}
-use Rattle.pd_graph.specs.Roles.{has_bit}
-use Rattle.pd_graph.proofs.AnyLemmas.{same_test}
+use Rattle.pd_graph.specs.Marks.{has_bit}
 use Rattle.pd_graph.proofs.BitLemmas.{counts_none, counts_one}
-use Rattle.pd_whole.specs.Refs.{number_in}
-use Rattle.pd_arrays.specs.Reads.{number_where}
-use Rattle.pd_arrays.proofs.ReadLemmas.{in_role, where_fewer, where_more, where_zero}
-use Rattle.pd_origins.specs.declared.origin_set.OriginSet.{OriginSet}
+use Rattle.pd_check.specs.Refs.{number_in}
+use Rattle.pd_check.specs.Arrays.{number_where}
+use Rattle.pd_check.proofs.ArrayReads.{in_role, where_fewer, where_more, where_zero}
+use Rattle.pd_meaning_cache.specs.declared.origin_set.OriginSet.{OriginSet}
+use Rattle.pd_meaning_cache.specs.OriginSet.{AreAdded, count_of}
+use Rattle.pd_meaning_cache.proofs.AddedLemmas.{count-append, count_by_repeat, count_here, repeat_behind, repeat_by_count}
 use Rattle.pd_cache.specs.declared.origins.Origins.{Origins}
-use Rattle.pd_origins.specs.OriginSet.{AreAdded, count_of}
-use Rattle.pd_cache.specs.Origins.{AddsBlock, is_again, places_of, seen_at}
+use Rattle.pd_cache.specs.Meeting.{AddsBlock, is_again, places_of, seen_at, AreMapBlocks, AreMet, IsFresh, IsMapBlock, IsPartMet, IsSeen, seen_number}
 use Rattle.pd_cache.specs.Words.{block_origins, origins_in}
-use Rattle.pd_cache.specs.Meeting.{AreMapBlocks, AreMet, IsFresh, IsMapBlock, IsPartMet, IsSeen, seen_number}
-use Rattle.pd_origins.proofs.RepeatLemmas.{count-append, count_by_repeat, count_here, repeat_behind, repeat_by_count}
 
 module _ (words met : List ℕ) (again : Bool) (told : has_repeat words ≡ (again || has_repeat met))
     (kept : (x : ℕ) → 1 ≤ count_of x words → 1 ≤ count_of x met) (only : (x : ℕ) → count_of x met ≤ count_of x words) (added : List ℕ) where

@@ -1,23 +1,23 @@
 -- What the rules of a whole cache are looked at over.
-use Rattle.std.specs.Prelude.{ℕ, ◌+◌, ◌==◌, ◌/◌, if◌then◌else◌, List, [], ◌∷◌, ◌++◌, map, filter, length}
+-- The superblock of a cache, in role 0: a cache has no other copy of it.
+use Rattle.std.specs.Prelude.{ℕ, ◌+◌, ◌==◌, ◌/◌, if◌then◌else◌, List, [], ◌∷◌, ◌++◌, map, filter, length, Bool}
 use Rattle.std.specs.List.{flat_map}
-use Rattle.pd_kinds.specs.declared.rule.Rule.TheVariants as r
-use Rattle.pd_kinds.specs.CacheFormat.{CacheFields, has_dirty_bits}
-use Rattle.pd_kinds.specs.Graph.{Graph}
+use Rattle.pd_kinds.specs.CacheFormat.{CacheFields, has_dirty_bits, cache_fields, cache_super_bad, cache_super_edges}
+use Rattle.pd_kinds.specs.Graph.{Graph, Edge}
 use Rattle.pd_kinds.specs.Trees.{entries_below, words_of}
 use Rattle.pd_kinds.specs.Whole.{Array, WholeTest, array_whole, bitmap_tests, has_repeat, is_valid_word, optional_array, origin_of_word}
-use Rattle.pd_array.specs.declared.word.Word.TheVariants.{Four, Eight}
-use Rattle.pd_laws.specs.InOrder.{AreInOrder}
+use Rattle.pd_kinds.specs.InOrder.{AreInOrder}
+use Rattle.pd_kinds.specs.declared.rule.Rule.{Rule}
+use Rattle.pd_kinds.specs.declared.rule.Rule.TheVariants as r
+use Rattle.pd_array.specs.declared.array.Word.TheVariants.{Four, Eight}
 use Rattle.pd_graph.specs.declared.audit.Audit.{Audit}
 use Rattle.pd_graph.specs.Audit.{blocks_of}
-use Rattle.pd_whole.specs.Refs.{number_in}
 use Rattle.pd_tree.specs.Below.{nodes_below}
-use Rattle.pd_tree.specs.Roots.{HasCacheRoots}
-use Rattle.pd_tree.specs.TreeRoles.{HasCacheTrees}
-use Rattle.pd_whole.specs.Known.{IsKnown}
-use Rattle.pd_arrays.specs.declared.roles.ArrayRoles.{ArrayRoles}
-use Rattle.pd_arrays.specs.Arrays.{array_of}
-use Rattle.pd_arrays.specs.KindReads.{kind_reads}
+use Rattle.pd_tree.specs.Search.{HasCacheRoots, HasCacheTrees}
+use Rattle.pd_check.specs.Refs.{number_in}
+use Rattle.pd_check.specs.Known.{IsKnown}
+use Rattle.pd_check.specs.declared.array_rules.ArrayRoles.{ArrayRoles}
+use Rattle.pd_check.specs.Arrays.{array_of, kind_reads}
 
 -- the arrays of a cache: mappings, hints, discarded blocks, dirty blocks
 abbrev pub mappings : ArrayRoles
@@ -77,3 +77,9 @@ arrays_reads audit = kind_reads audit mappings + (kind_reads audit hints + (kind
 
 abbrev pub origin_reads : Audit → List (List ℕ) → ℕ → ℕ
 origin_reads audit image root = length (nodes_below 8 image 63 root) + number_in audit 2 (blocks_of audit)
+
+abbrev pub super_copy_rules : ℕ → ℕ → ℕ → List ℕ → Rule → Bool
+super_copy_rules nr role place block = cache_super_bad nr block
+
+abbrev pub super_copy_edges : ℕ → List ℕ → List Edge
+super_copy_edges role block = cache_super_edges (cache_fields block)

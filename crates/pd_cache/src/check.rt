@@ -1,22 +1,38 @@
-//! The check of a cache's metadata.
+//! The check of a cache's metadata (`cache_check`).
 
-ghost use Rattle.std.specs.Prelude.{◌≡◌, ◌+◌, IfOk, IfSome};
+ghost use Rattle.std.specs.Prelude.{◌≡◌, ◌+◌, IfOk, IfSome, ℕ, ◌*◌, ◌≤◌, List, length, OnOk};
 ghost use Rattle.pd_kinds.specs.declared.kind.Kind.TheVariants.{Cache};
 ghost use Rattle.pd_kinds.specs.declared.kind.Stage.TheVariants.{Counts};
 ghost use Rattle.pd_kinds.specs.CheckFault.{CountsCheckFault, StopsEarly};
-ghost use Rattle.pd_kinds.specs.Stages.{faults};
-ghost use Rattle.pd_kinds.specs.Report.{report_of};
+ghost use Rattle.pd_kinds.specs.Stages.{faults, checked_of};
+ghost use Rattle.pd_kinds.specs.Rule.{report_of};
+ghost use Rattle.pd_kinds.specs.CacheFormat.{CacheFields, cache_fields, cache_graph, cache_layout};
+ghost use Rattle.pd_kinds.specs.Graph.{Graph, is_reached, nodes};
+ghost use Rattle.pd_kinds.specs.Objects.{CountsFault};
 ghost use Rattle.pd_image.specs.Device.{IsAttached, OnlyReads};
-ghost use Rattle.pd_check.specs.Check.{MayWantMemory, ReadsFew};
+ghost use Rattle.pd_graph.specs.declared.audit.Audit.{Audit as TheAudit};
+ghost use Rattle.pd_graph.specs.Audit.{blocks_of, KeepsButRules};
+ghost use Rattle.pd_check.specs.Check.{MayWantMemory, ReadsFew, IsOrdered};
+ghost use Rattle.pd_check.specs.Known.{Charges};
+ghost use Rattle.pd_check.specs.Arrays.{AreAllShown};
+ghost use Rattle.pd_cache.specs.Meeting.{HasRoom};
+ghost use Rattle.pd_cache.specs.Whole.{IsReady, arrays_reads, origin_reads};
 
-use crate::cache::mark_by_super;
 use crate::format::{CacheFormat, CacheTable};
-use crate::room::CacheRoom;
-use pd_check::{DataSpace, Metadata, check};
+use crate::room::CacheMemory;
+use crate::whole::mark_cache;
+use pd_check::{
+    DataSpace, Metadata, check, known_blocks_are_reached_once,
+    nodes_of_reached_trees_are_reached_once, reached_blocks_are_no_more_than_nodes,
+    shown_blocks_are_counted,
+};
 use pd_graph::Audit;
 use pd_image::{Device, Failed};
-use pd_kinds::{Block, CheckFault, MAX_META_BLOCKS, Report, Rules, SmRoot, Stage};
+use pd_kinds::{
+    Block, CheckFault, MAX_META_BLOCKS, Report, Rules, SmRoot, Stage, trees_are_in_order,
+};
 use pd_supers::{cache_super_rules, read_cache_super};
+use pd_tree::{formats_have_trees, superblocks_lead_to_reached_roots};
 use std::alloc::{AllocError, Global};
 
 impl Metadata for CacheTable {
@@ -24,7 +40,7 @@ impl Metadata for CacheTable {
 
     type Format = CacheFormat;
 
-    type WholeMemory = CacheRoom;
+    type WholeMemory = CacheMemory;
 
     ghost kind = { Cache };
 
@@ -44,13 +60,13 @@ impl Metadata for CacheTable {
         None
     }
 
-    fn room(alloc: Global, b: &Block) -> Result<CacheRoom, AllocError> {
+    fn whole_memory(alloc: Global, b: &Block) -> Result<CacheMemory, AllocError> {
         let blocks = read_cache_super(b).meta_map.blocks;
-        CacheRoom::new(alloc, blocks.min(MAX_META_BLOCKS))
+        CacheMemory::new(alloc, blocks.min(MAX_META_BLOCKS))
     }
 
     fn mark_whole<D: Device>(
-        room: CacheRoom,
+        room: CacheMemory,
         b: &Block,
         audit: &mut Audit,
         dev: &mut D,
@@ -82,9 +98,62 @@ pub fn check_cache<D: Device>(
     ensures report { IfOk result (λ report. IfSome (D.state dev.old).held (λ image. report ≡ report_of (faults Cache until image))) }
     ensures memory { MayWantMemory Cache until (D.state dev.old).held result }
     ensures early { (until ≡ Counts → ⊥) → StopsEarly result ((D.state dev.old).reads + 1) (D.state dev.new).reads }
-    ensures reads { IfSome (D.state dev.old).held (λ image. ReadsFew Cache until image ((D.state dev.old).reads + 1) (D.state dev.new).reads) }
+    ensures reads { IfSome (D.state dev.old).held
+        (λ image. ReadsFew Cache until image ((D.state dev.old).reads + 1) (D.state dev.new).reads) }
     ensures kept { OnlyReads (D.state dev.old) (D.state dev.new) }
     ensures faults { CountsCheckFault result (D.state dev.old).faults (D.state dev.new).faults }
 {
     check::<CacheTable, D>(alloc, dev, until)
+}
+
+// The rules of a whole cache, by its superblock (`cache_check`).
+
+/// In a cache that is in order, all roots that the superblock names are reached.
+fn ordered_caches_are_ready()
+    ensures { (first : List ℕ) (image : List (List ℕ)) (audit : TheAudit) → IsOrdered Cache first image audit
+        → IsReady (cache_graph first) image audit (cache_fields first) }
+{
+    trees_are_in_order();
+    formats_have_trees();
+    superblocks_lead_to_reached_roots();
+}
+
+/// What is read to look at the rules of a whole cache are at most two blocks for each reachable pair.
+fn rules_read_each_pair_twice()
+    ensures { (graph : Graph) (image : List (List ℕ)) (audit : TheAudit) (fields : CacheFields) → IsReady graph image audit fields
+        → origin_reads audit image fields.mapping_root + arrays_reads audit ≤ 2 * length (nodes graph image) }
+{
+    reached_blocks_are_no_more_than_nodes();
+    known_blocks_are_reached_once();
+    nodes_of_reached_trees_are_reached_once();
+}
+
+/// Gives each block the rules of the whole cache that it breaks, where this is block 0 and no block has a rule up to the
+/// order of the trees. It takes no memory.
+pub(crate) fn mark_by_super<D: Device>(
+    room: &mut CacheMemory,
+    b: &Block,
+    audit: &mut Audit,
+    dev: &mut D,
+) -> Result<(), Failed>
+    requires room { HasRoom room.old (cache_graph b.now.0) }
+    requires attached { IsAttached (D.state dev.old) }
+    requires number { blocks_of audit.old ≡ (cache_graph b.now.0).nr }
+    requires within { (cache_graph b.now.0).nr ≤ (D.state dev.old).blocks }
+    ensures charges { OnOk result (IfSome (D.state dev.old).held (λ image. IsOrdered Cache b.now.0 image audit.old
+        → AreAllShown (cache_layout 0) image (is_reached (cache_graph b.now.0) image) room.old.arrays.marks
+        → Charges (checked_of Cache image).whole audit.old audit.new)) }
+    ensures reads { IfSome (D.state dev.old).held (λ image. IsOrdered Cache b.now.0 image audit.old
+        → (D.state dev.new).reads ≤ (D.state dev.old).reads + 2 * length (nodes (cache_graph b.now.0) image)) }
+    ensures rules { KeepsButRules audit.old audit.new }
+    ensures kept { OnlyReads (D.state dev.old) (D.state dev.new) }
+    ensures faults { CountsFault result (D.state dev.old).faults (D.state dev.new).faults }
+{
+    ordered_caches_are_ready();
+    rules_read_each_pair_twice();
+    shown_blocks_are_counted();
+    let fields = read_cache_super(b);
+    let _nr = audit.nr();
+    let format = CacheFormat::of(&fields);
+    mark_cache(room, &fields, &format, audit, dev)
 }

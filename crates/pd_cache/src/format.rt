@@ -1,4 +1,4 @@
-//! A cache's metadata as a table, versions 1 and 2.
+//! A cache's metadata as a table, versions 1 and 2 (`cache_check`).
 
 use pd_array::Word;
 use pd_kinds::{Block, CacheSuper, Edges, Rules, cache_role};
@@ -15,8 +15,8 @@ pub type CacheFormat = Tabled<CacheTable>;
 
 impl Table for CacheTable {
     ghost use Rattle.pd_kinds.specs.CacheFormat.{cache_layout};
-    ghost use Rattle.pd_laws.proofs.CacheTable.{cache_table};
-    ghost use Rattle.pd_cache.specs.Copies.{super_copy_edges, super_copy_rules};
+    ghost use Rattle.pd_kinds.proofs.CacheTable.{cache_table};
+    ghost use Rattle.pd_cache.specs.Whole.{super_copy_edges, super_copy_rules};
 
     const ROLES: u8 = cache_role::ROLES;
 

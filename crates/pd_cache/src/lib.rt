@@ -1,7 +1,6 @@
-//! A cache's metadata, versions 1 and 2: its format, as a walk sees it, and its check.
+//! A cache's metadata, versions 1 and 2: its format, as a walk sees it, and its check (`cache_check`).
 #![tactic(auto)]
 
-mod cache;
 mod check;
 mod format;
 mod mapping;
@@ -12,4 +11,4 @@ mod whole;
 pub use check::check_cache;
 pub use format::{CacheFormat, CacheTable};
 pub use pd_kinds::CheckFault;
-pub use room::CacheRoom;
+pub use room::CacheMemory;

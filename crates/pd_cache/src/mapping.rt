@@ -1,4 +1,4 @@
-//! The origins of a cache's mapping array, block after block.
+//! The origins of a cache's mapping array, block after block (`cache_check`).
 
 ghost use Rattle.std.specs.Prelude.{◌≡◌, ℕ, ◌+◌, ◌<◌, ◌≤◌, ◌↔◌, ◌++◌, [], ◌∷◌, List, length, IsTrue, IfOk, IfSome, OnOk};
 ghost use Rattle.std.specs.List.{AllByRecursion};
@@ -6,13 +6,11 @@ ghost use Rattle.pd_kinds.specs.Objects.{CountsFault};
 ghost use Rattle.pd_kinds.specs.Whole.{has_repeat};
 ghost use Rattle.pd_image.specs.Device.{IsAttached, OnlyReads};
 ghost use Rattle.pd_graph.specs.Audit.{blocks_of};
-ghost use Rattle.pd_whole.specs.Refs.{number_in};
 ghost use Rattle.pd_tree.specs.Below.{items_below, nodes_below};
-ghost use Rattle.pd_tree.specs.Cursor.{cursor_nodes};
-ghost use Rattle.pd_tree.specs.Items.{root_of};
+ghost use Rattle.pd_tree.specs.Cursor.{cursor_nodes, root_of};
+ghost use Rattle.pd_check.specs.Refs.{number_in};
 ghost use Rattle.pd_cache.specs.Words.{origins_in};
-ghost use Rattle.pd_cache.specs.Origins.{places_of};
-ghost use Rattle.pd_cache.specs.Meeting.{AreMapBlocks, AreMet, IsFresh, IsMapBlock, blocks_left, blocks_named, seen_number};
+ghost use Rattle.pd_cache.specs.Meeting.{places_of, AreMapBlocks, AreMet, IsFresh, IsMapBlock, blocks_left, blocks_named, seen_number};
 
 use crate::origins::Origins;
 use pd_graph::{Audit, has_role};
@@ -49,7 +47,8 @@ fn meet<D: Device>(
     ensures in_role { AreMapBlocks audit.now origins.new }
     ensures places { places_of origins.new ≡ places_of origins.old }
     ensures reads { OnOk result ((D.state dev.new).reads + seen_number origins.old ≤ (D.state dev.old).reads + seen_number origins.new) }
-    ensures reads_failed { (D.state dev.new).reads + seen_number origins.old ≤ (D.state dev.old).reads + number_in audit.now 2 (blocks_of audit.now) }
+    ensures reads_failed { (D.state dev.new).reads + seen_number origins.old
+        ≤ (D.state dev.old).reads + number_in audit.now 2 (blocks_of audit.now) }
     ensures kept { OnlyReads (D.state dev.old) (D.state dev.new) }
     ensures faults { CountsFault result (D.state dev.old).faults (D.state dev.new).faults }
 {

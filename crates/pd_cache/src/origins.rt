@@ -1,13 +1,13 @@
-//! Whether two entries of a cache have one origin.
+//! Whether two entries of a cache have one origin (`cache_check`).
 
 ghost use Rattle.std.specs.Prelude.{◌≡◌, ℕ, ◌+◌, ◌*◌, ◌≤◌, ◌<◌, List, ◌++◌, [], length, None, false, IfOk, replicate};
 ghost use Rattle.pd_kinds.specs.Whole.{has_repeat};
-ghost use Rattle.pd_origins.specs.OriginSet.{AreAdded, others_number, others_room};
+ghost use Rattle.pd_meaning_cache.specs.OriginSet.{AreAdded, others_number, others_room};
 ghost use Rattle.pd_cache.specs.Words.{block_origins, unseen_number, word_origins};
 
 use pd_array::{Word, array_len, array_word};
 use pd_kinds::Block;
-use pd_origins::OriginSet;
+use pd_meaning_cache::OriginSet;
 use std::alloc::{AllocError, Global};
 
 /// How many words a block of the mapping array has room for.
@@ -34,7 +34,7 @@ pub(crate) struct Origins {
 impl Origins {
     ghost use Rattle.std.specs.Prelude.{◌||◌};
     ghost use Rattle.pd_kinds.specs.declared.limits.TheConstants.{MAX_META_BLOCKS};
-    ghost use Rattle.pd_cache.specs.Origins.{AddsBlock, is_again, places_of, seen_at};
+    ghost use Rattle.pd_cache.specs.Meeting.{AddsBlock, is_again, places_of, seen_at};
 
     /// No origin yet, with memory for so many metadata blocks. Want of it is the only error.
     pub(crate) fn new(alloc: Global, nr: u64) -> Result<Origins, AllocError>

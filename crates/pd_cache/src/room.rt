@@ -1,12 +1,12 @@
-//! The memory of a cache's check.
+//! The memory of a cache's check (`cache_check`).
 
-ghost use Rattle.std.specs.Prelude.{◌≡◌, ◌≤◌, IfOk};
+ghost use Rattle.std.specs.Prelude.{◌≤◌, IfOk};
 ghost use Rattle.pd_kinds.specs.declared.limits.TheConstants.{MAX_META_BLOCKS};
-ghost use Rattle.pd_cache.specs.Room.{IsRoomFor};
+ghost use Rattle.pd_cache.specs.Meeting.{IsRoomFor};
 
 use crate::format::CacheTable;
 use crate::origins::Origins;
-use pd_arrays::ArrayRoom;
+use pd_check::ArrayMemory;
 use pd_graph::{Format, Watch};
 use pd_kinds::{Block, Rules};
 use pd_tree::Cursor;
@@ -16,23 +16,23 @@ use std::alloc::{AllocError, Global};
 /// The memory in which the rules of a whole cache are looked at. It learns of a walk how many words each block of its
 /// arrays has.
 #[derive(Drop)]
-pub struct CacheRoom {
-    pub(crate) arrays: ArrayRoom<CacheTable>,
+pub struct CacheMemory {
+    pub(crate) arrays: ArrayMemory<CacheTable>,
     pub(crate) entries: Cursor<Root>,
     pub(crate) origins: Origins,
 }
 
-impl CacheRoom {
+impl CacheMemory {
     /// The memory for so many metadata blocks: 329 KiB, and for each block eight bytes and address space for 5096 more,
     /// of which only what the mapping array fills is touched. Want of it is the only error.
-    pub fn new(alloc: Global, nr: u64) -> Result<CacheRoom, AllocError>
+    pub fn new(alloc: Global, nr: u64) -> Result<CacheMemory, AllocError>
         requires { nr ≤ MAX_META_BLOCKS }
         ensures { IfOk result (IsRoomFor nr) }
     {
-        let arrays = ArrayRoom::new(alloc, nr)?;
+        let arrays = ArrayMemory::new(alloc, nr)?;
         let entries = Cursor::start(alloc, 0)?;
         let origins = Origins::new(alloc, nr)?;
-        Ok(CacheRoom {
+        Ok(CacheMemory {
             arrays,
             entries,
             origins,
@@ -40,11 +40,11 @@ impl CacheRoom {
     }
 }
 
-impl Watch for CacheRoom {
+impl Watch for CacheMemory {
     ghost use Rattle.pd_kinds.specs.CacheFormat.{cache_layout};
-    ghost use Rattle.pd_arrays.specs.Arrays.{AreAllShown};
-    ghost use Rattle.pd_arrays.specs.Room.{shown_same};
-    ghost use Rattle.pd_cache.specs.Room.{HasRoom};
+    ghost use Rattle.pd_check.specs.Arrays.{AreAllShown};
+    ghost use Rattle.pd_check.specs.Arrays.{shown_same};
+    ghost use Rattle.pd_cache.specs.Meeting.{HasRoom};
 
     ghost has_room = { HasRoom };
 

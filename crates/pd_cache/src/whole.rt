@@ -1,28 +1,26 @@
-//! The rules of a whole cache, where no block has a rule up to the order of the trees.
+//! The rules of a whole cache, where no block has a rule up to the order of the trees (`cache_check`).
 
-ghost use Rattle.std.specs.Prelude.{◌≡◌, ◌+◌, ◌/◌, ◌<◌, ◌≤◌, ◌==◌, [], ◌∷◌, IfSome, OnOk};
+ghost use Rattle.std.specs.Prelude.{◌≡◌, ◌+◌, ◌/◌, ◌<◌, ◌≤◌, [], ◌∷◌, IfSome, OnOk};
 ghost use Rattle.std.specs.List.{flat_map};
 ghost use Rattle.pd_kinds.specs.Objects.{CountsFault};
 ghost use Rattle.pd_kinds.specs.Graph.{Graph, nodes};
 ghost use Rattle.pd_kinds.specs.Stages.{IsReached};
 ghost use Rattle.pd_kinds.specs.Whole.{array_whole, optional_array};
-ghost use Rattle.pd_image.specs.Device.{IsAttached, OnlyReads};
 ghost use Rattle.pd_array.specs.Word.{size_of};
+ghost use Rattle.pd_image.specs.Device.{IsAttached, OnlyReads};
 ghost use Rattle.pd_graph.specs.Audit.{blocks_of, KeepsButRules};
-ghost use Rattle.pd_whole.specs.Charges.{Charges};
-ghost use Rattle.pd_arrays.specs.ArrayMarks.{places_of as marks_of};
-ghost use Rattle.pd_arrays.specs.Arrays.{AreAllCounted, AreCounted, HasArrays, KeepsBlocks};
-ghost use Rattle.pd_arrays.specs.KindReads.{kind_reads};
-ghost use Rattle.pd_cache.specs.Origins.{places_of};
-ghost use Rattle.pd_cache.specs.Meeting.{IsFresh};
-ghost use Rattle.pd_cache.specs.Whole.{IsReady, arrays, arrays_named, arrays_reads, dirty_arrays, dirty_bits as dirty_bits_of, discards as discards_of, hints as hints_of, mappings as mappings_of, origin_reads, origin_test, tests_named};
-ghost use Rattle.pd_cache.specs.Room.{IsRoomFor};
+ghost use Rattle.pd_check.specs.Known.{Charges};
+ghost use Rattle.pd_check.specs.Arrays.{places_of as marks_of, AreAllCounted, AreCounted, HasArrays, KeepsBlocks, kind_reads};
+ghost use Rattle.pd_cache.specs.Meeting.{places_of, IsFresh, IsRoomFor};
+ghost use Rattle.pd_cache.specs.Whole.{IsReady, arrays, arrays_named, arrays_reads, dirty_arrays, dirty_bits as dirty_bits_of};
+ghost use Rattle.pd_cache.specs.Whole.{discards as discards_of, hints as hints_of, mappings as mappings_of, origin_reads, origin_test};
+ghost use Rattle.pd_cache.specs.Whole.{tests_named};
 
 use crate::mapping::is_origin_repeated;
 use crate::origins::Origins;
-use crate::room::CacheRoom;
+use crate::room::CacheMemory;
 use pd_array::Word;
-use pd_arrays::{ArrayMarks, ArrayRoles, mark_array};
+use pd_check::{ArrayMarks, ArrayRoles, charge, mark_array, mark_shared};
 use pd_graph::{Audit, Format};
 use pd_image::{Device, Failed};
 use pd_kinds::{CacheSuper, Rule, cache_role};
@@ -30,7 +28,6 @@ use pd_tree::{
     Cursor, cursors_give_entries, entries_lead_to_reached_pairs, reached_trees_are_sound,
 };
 use pd_value::Root;
-use pd_whole::{charge, mark_shared};
 
 /// The number of dirty bits in a word.
 const WORD_BITS: u64 = 64;
@@ -102,7 +99,8 @@ fn mark_optional<F: Format, D: Device>(
     requires nodes { roles.nodes < F.ROLES }
     ensures charges { OnOk result (IfSome (D.state dev.old).held (λ image. HasArrays (F.graph format.now) image audit.old roles
         → AreCounted (F.graph format.now) image roles marks.old → ((root ≡ 0 → ⊥) → IsReached (F.graph format.now) image root roles.nodes)
-        → Charges (flat_map (array_whole (F.graph format.now) image) (optional_array roles.nodes root (size_of roles.word) [])) audit.old audit.new)) }
+        → Charges (flat_map (array_whole (F.graph format.now) image)
+        (optional_array roles.nodes root (size_of roles.word) [])) audit.old audit.new)) }
     ensures blocks { KeepsBlocks audit.old roles marks.old marks.new }
     ensures places { marks_of marks.new ≡ marks_of marks.old }
     ensures reads { (D.state dev.new).reads ≤ (D.state dev.old).reads + kind_reads audit.old roles }
@@ -130,7 +128,8 @@ fn mark_dirty_bits<F: Format, D: Device>(
     requires within { blocks_of audit.old ≤ (D.state dev.old).blocks }
     requires roles { F.ROLES ≡ 12 }
     ensures charges { OnOk result (IfSome (D.state dev.old).held (λ image. HasArrays (F.graph format.now) image audit.old dirty_bits_of
-        → AreCounted (F.graph format.now) image dirty_bits_of marks.old → (fields.now.version ≡ 2 → IsReached (F.graph format.now) image fields.now.dirty_root 10)
+        → AreCounted (F.graph format.now) image dirty_bits_of marks.old
+        → (fields.now.version ≡ 2 → IsReached (F.graph format.now) image fields.now.dirty_root 10)
         → Charges (flat_map (array_whole (F.graph format.now) image) (dirty_arrays fields.now)) audit.old audit.new)) }
     ensures reads { (D.state dev.new).reads ≤ (D.state dev.old).reads + kind_reads audit.old dirty_bits_of }
     ensures rules { KeepsButRules audit.old audit.new }
@@ -167,7 +166,8 @@ fn mark_arrays<F: Format, D: Device>(
     requires within { blocks_of audit.old ≤ (D.state dev.old).blocks }
     requires roles { F.ROLES ≡ 12 }
     ensures charges { OnOk result (IfSome (D.state dev.old).held (λ image. IsReady (F.graph format.now) image audit.old fields.now
-        → AreAllCounted arrays (F.graph format.now) image marks.old → Charges (flat_map (array_whole (F.graph format.now) image) (arrays_named fields.now)) audit.old audit.new)) }
+        → AreAllCounted arrays (F.graph format.now) image marks.old
+        → Charges (flat_map (array_whole (F.graph format.now) image) (arrays_named fields.now)) audit.old audit.new)) }
     ensures reads { (D.state dev.new).reads ≤ (D.state dev.old).reads + arrays_reads audit.old }
     ensures rules { KeepsButRules audit.old audit.new }
     ensures kept { OnlyReads (D.state dev.old) (D.state dev.new) }
@@ -202,7 +202,8 @@ fn mark_origin<D: Device>(
     requires within { blocks_of audit.old ≤ (D.state dev.old).blocks }
     ensures charges { OnOk result (IfSome (D.state dev.old).held (λ image. (graph : Graph) → HasArrays graph image audit.old mappings_of
         → IsReached graph image root 1 → Charges (origin_test graph image root ∷ []) audit.old audit.new)) }
-    ensures reads { IfSome (D.state dev.old).held (λ image. (D.state dev.new).reads ≤ (D.state dev.old).reads + origin_reads audit.old image root) }
+    ensures reads { IfSome (D.state dev.old).held
+        (λ image. (D.state dev.new).reads ≤ (D.state dev.old).reads + origin_reads audit.old image root) }
     ensures rules { KeepsButRules audit.old audit.new }
     ensures kept { OnlyReads (D.state dev.old) (D.state dev.new) }
     ensures faults { CountsFault result (D.state dev.old).faults (D.state dev.new).faults }
@@ -221,7 +222,7 @@ fn mark_origin<D: Device>(
 /// Gives each block the rules of the whole cache that it breaks, where these are the superblock's fields. It takes no
 /// memory.
 pub(crate) fn mark_cache<F: Format, D: Device>(
-    room: &mut CacheRoom,
+    room: &mut CacheMemory,
     fields: &CacheSuper,
     format: &F,
     audit: &mut Audit,
@@ -233,7 +234,8 @@ pub(crate) fn mark_cache<F: Format, D: Device>(
     requires within { blocks_of audit.old ≤ (D.state dev.old).blocks }
     requires roles { F.ROLES ≡ 12 }
     ensures charges { OnOk result (IfSome (D.state dev.old).held (λ image. IsReady (F.graph format.now) image audit.old fields.now
-        → AreAllCounted arrays (F.graph format.now) image room.old.arrays.marks → Charges (tests_named (F.graph format.now) image fields.now) audit.old audit.new)) }
+        → AreAllCounted arrays (F.graph format.now) image room.old.arrays.marks
+        → Charges (tests_named (F.graph format.now) image fields.now) audit.old audit.new)) }
     ensures reads { IfSome (D.state dev.old).held (λ image. (D.state dev.new).reads
         ≤ (D.state dev.old).reads + (origin_reads audit.old image fields.now.mapping_root + arrays_reads audit.old)) }
     ensures rules { KeepsButRules audit.old audit.new }

@@ -8,49 +8,42 @@ use Rattle.std.proofs.lemmas.Slice.Eq.{bytes_eq-Decides}
 use Rattle.pd_kinds.specs.declared.kind.Kind.{Kind}
 use Rattle.pd_kinds.specs.declared.kind.Kind.TheVariants.{Thin, Cache, Era}
 use Rattle.pd_kinds.specs.declared.kind.Stage.{Stage}
-use Rattle.pd_kinds.specs.declared.kind.Stage.TheVariants as stages
 use Rattle.pd_kinds.specs.declared.rule.Rule.{Rule}
-use Rattle.pd_kinds.specs.declared.rule.Rule.TheVariants as r
-use Rattle.pd_kinds.specs.Rule.{same_rule}
-use Rattle.pd_kinds.specs.declared.fault.Fault.{Fault}
-use Rattle.pd_kinds.specs.declared.fault.Space.{Space}
-use Rattle.pd_kinds.specs.declared.fault.Space.TheVariants.{Meta, DataBlock}
-use Rattle.pd_kinds.specs.declared.map_root.SmRoot.{SmRoot}
+use Rattle.pd_kinds.specs.Rule.{same_rule, Reported, report_of}
+use Rattle.pd_kinds.specs.declared.rule.Fault.{Fault}
+use Rattle.pd_kinds.specs.declared.rule.Space.{Space}
+use Rattle.pd_kinds.specs.declared.rule.Space.TheVariants.{Meta, DataBlock}
+use Rattle.pd_kinds.specs.declared.superblocks.SmRoot.{SmRoot}
 use Rattle.pd_kinds.specs.Node.{Entry}
 use Rattle.pd_kinds.specs.Bitmap.{bitmaps_for}
 use Rattle.pd_kinds.specs.Graph.{Graph, block_at, is_reached, pair, meta_count, data_count}
 use Rattle.pd_kinds.specs.Layout.{Layout, bitmap, index, plain_tree, tree_to, layouts, layout_data, is_bad, leaf_entries, graph_of}
-use Rattle.pd_kinds.specs.Report.{Reported, report_of}
 use Rattle.pd_kinds.specs.Stages.{checked_of, thin_checked, cache_checked, era_checked, count_fault, count_faults, faults, IsReached}
-use Rattle.pd_kinds.specs.ThinSuper.{thin_fields}
-use Rattle.pd_kinds.specs.ThinFormat.{thin_graph, thin_layout}
+use Rattle.pd_kinds.specs.ThinFormat.{thin_fields, thin_graph, thin_layout}
 use Rattle.pd_kinds.specs.CacheFormat.{cache_fields, cache_graph}
 use Rattle.pd_kinds.specs.EraFormat.{era_fields, era_graph}
 use Rattle.pd_kinds.specs.Trees.{entries_below, keys_of, stored_meta_in, stored_data_in}
 use Rattle.pd_kinds.specs.Whole.{whole_bad, thin_whole, data_index_entries}
-use Rattle.pd_laws.specs.InOrder.{LooksAtOrder, graph_of_kind}
-use Rattle.pd_laws.proofs.CleanLemmas.{whole_where_none}
-use Rattle.pd_laws.proofs.ThinTable.{few_data_blocks}
+use Rattle.pd_kinds.proofs.NumberLemmas.{first_not}
+use Rattle.pd_kinds.proofs.ResultLemmas.{if_any, if_both}
+use Rattle.pd_kinds.specs.InOrder.{LooksAtOrder, graph_of_kind}
+use Rattle.pd_kinds.proofs.CleanLemmas.{whole_where_none}
+use Rattle.pd_kinds.proofs.ThinTable.{few_data_blocks}
+use Rattle.pd_kinds.specs.declared.kind.Stage.TheVariants as stages
+use Rattle.pd_kinds.specs.declared.rule.Rule.TheVariants as r
+use Rattle.pd_count.specs.Counted.{Counted, count_of}
 use Rattle.pd_graph.specs.declared.audit.Audit.{Audit}
 use Rattle.pd_graph.specs.Audit.{count_at}
-use Rattle.pd_graph.proofs.AnyLemmas.{if_any, if_both}
-use Rattle.pd_tree.specs.Roots.{HasCacheRoots, HasEraRoots, HasThinRoots}
-use Rattle.pd_tree.specs.Sound.{IsSoundTree}
-use Rattle.pd_tree.specs.TreeRoles.{HasCacheTrees, HasEraTrees, HasThinTrees, IsTreeRole}
-use Rattle.pd_count.specs.Counted.{Counted, count_of}
-use Rattle.pd_whole.specs.declared.counter.RefCounter.{RefCounter}
-use Rattle.pd_whole.specs.Counter.{HasSeen}
-use Rattle.pd_whole.specs.Refs.{HasDataCounts, NamesDataIn}
-use Rattle.pd_smap.specs.Counted.{faults_from}
-use Rattle.pd_smap.specs.Entries.{IsIndex, IsOverflow, index_of, overflow_of}
-use Rattle.pd_smap.specs.Reports.{Adds}
-use Rattle.pd_whole.specs.Known.{IsKnown}
-use Rattle.pd_check.specs.declared.data_space.DataSpace.{DataSpace}
-use Rattle.pd_check.specs.ByKind.{data_space_of, graph_of_super, meta_map_of, super_bad_of}
-use Rattle.pd_check.specs.Counts.{count_reads, data_faults, meta_faults, meta_reads, space_reads}
-use Rattle.pd_check.specs.Whole.{IsWhole}
-use Rattle.pd_check.proofs.CheckLemmas.{same_graph}
-use Rattle.pd_check.proofs.WalkReport.{flat_map-same}
+use Rattle.pd_tree.specs.Search.{HasCacheRoots, HasEraRoots, HasThinRoots, IsSoundTree, HasCacheTrees, HasEraTrees, HasThinTrees, IsTreeRole}
+use Rattle.pd_smap.specs.Steps.{faults_from, Adds}
+use Rattle.pd_smap.specs.Overflow.{IsIndex, IsOverflow, index_of, overflow_of}
+use Rattle.pd_check.specs.declared.counter.RefCounter.{RefCounter}
+use Rattle.pd_check.specs.Counter.{HasSeen}
+use Rattle.pd_check.specs.Refs.{HasDataCounts, NamesDataIn}
+use Rattle.pd_check.specs.Known.{IsKnown}
+use Rattle.pd_check.specs.declared.metadata.DataSpace.{DataSpace}
+use Rattle.pd_check.specs.Check.{data_space_of, graph_of_super, meta_map_of, super_bad_of, count_reads, data_faults, meta_faults, meta_reads, space_reads, IsWhole}
+use Rattle.pd_check.proofs.CheckLemmas.{same_graph, flat_map-same}
 
 -- the faults of blocks with the same references and the same stored counts
 faults_same : (space : Space) (refs others : ℕ → ℕ) (stored told : ℕ → Option ℕ) (n : ℕ) → ((b : ℕ) → b < n → refs b ≡ others b) → ((b : ℕ) → stored b ≡ told b)
@@ -157,11 +150,6 @@ module _ (thin_trees : (super_block : List ℕ) → HasThinTrees (thin_graph sup
 pub on_ok : {T E : Type 0} {P Q : Type 0} → (result : Result T E) → (P → Q) → OnOk result P → OnOk result Q
 on_ok (Ok value) leads holds = leads holds
 on_ok (Err fault) leads holds = tt
-
--- the index of the data bitmaps has an entry for each, by the rule Index
-first_not : (first second : Bool) → second ≡ true → (first && second) ≡ false → first ≡ false
-first_not true second is none = absurd (cc)
-first_not false second is none = refl
 
 index_if : (graph : Graph) (image : List (List ℕ)) → ((b : ℕ) (broken : Rule) → b < graph.nr → whole_bad (thin_whole graph image) b broken ≡ false)
     → (thin_fields (block_at image 0)).data_map.bitmap_root < graph.nr

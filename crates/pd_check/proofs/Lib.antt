@@ -1,6 +1,14 @@
-pub mod WalkReport
-pub mod StageLemmas
 pub mod CheckLemmas
 pub mod WholeLemmas
+pub mod SharedLemmas
+pub mod KnownLemmas
+pub mod RefsLemmas
+pub mod NodeLemmas
+pub mod NamedLemmas
+pub mod ArrayLevels
+pub mod ArrayMarkLemmas
+pub mod ArrayRules
+pub mod ArrayReads
 pub mod CountLemmas
 pub mod ReadLemmas
+pub mod CounterLemmas

@@ -11,8 +11,7 @@ use Rattle.std.proofs.lemmas.Map.Steps.{length-le_from_distinct_below}
 use Rattle.pd_kinds.specs.declared.kind.Kind.{Kind}
 use Rattle.pd_kinds.specs.declared.kind.Kind.TheVariants.{Thin, Cache, Era}
 use Rattle.pd_kinds.specs.declared.kind.Stage.{Stage}
-use Rattle.pd_kinds.specs.declared.kind.Stage.TheVariants as stages
-use Rattle.pd_kinds.specs.declared.map_root.SmRoot.{SmRoot}
+use Rattle.pd_kinds.specs.declared.superblocks.SmRoot.{SmRoot}
 use Rattle.pd_kinds.specs.declared.rule.Rule.TheVariants.{Index}
 use Rattle.pd_kinds.specs.Bitmap.{bitmaps_for, index_block_at, index_blocks}
 use Rattle.pd_kinds.specs.Node.{Entry}
@@ -21,24 +20,21 @@ use Rattle.pd_kinds.specs.Lawful.{IsLawful}
 use Rattle.pd_kinds.specs.Stages.{faults, thin_checked, cache_checked, era_checked, IsReached}
 use Rattle.pd_kinds.specs.Trees.{entries_below}
 use Rattle.pd_kinds.specs.Whole.{bitmap_tests, whole_bad, thin_whole, cache_whole, era_whole}
-use Rattle.pd_kinds.specs.ThinSuper.{thin_fields}
-use Rattle.pd_kinds.specs.ThinFormat.{thin_graph, thin_layout}
+use Rattle.pd_kinds.specs.ThinFormat.{thin_fields, thin_graph, thin_layout}
 use Rattle.pd_kinds.specs.CacheFormat.{cache_fields, cache_graph, cache_layout}
 use Rattle.pd_kinds.specs.EraFormat.{era_fields, era_graph, era_layout}
-use Rattle.pd_laws.specs.InOrder.{AreInOrder, LooksAtOrder, graph_of_kind}
-use Rattle.pd_laws.proofs.AllLemmas.{all_append}
-use Rattle.pd_laws.proofs.CleanLemmas.{whole_where_none}
+use Rattle.pd_kinds.specs.InOrder.{AreInOrder, LooksAtOrder, graph_of_kind}
+use Rattle.pd_kinds.proofs.ListLemmas.{all_append}
+use Rattle.pd_kinds.proofs.CleanLemmas.{whole_where_none}
+use Rattle.pd_kinds.specs.declared.kind.Stage.TheVariants as stages
 use Rattle.pd_graph.specs.declared.audit.Audit.{Audit}
 use Rattle.pd_tree.specs.Below.{nodes_below}
-use Rattle.pd_tree.specs.Roots.{HasCacheRoots, HasEraRoots, HasThinRoots}
-use Rattle.pd_tree.specs.TreeRoles.{HasCacheTrees, HasEraTrees, HasThinTrees, IsTreeRole, IsTreeTo}
-use Rattle.pd_whole.specs.Known.{IsKnown}
-use Rattle.pd_whole.specs.Reached.{AreReachedOnce, InRole, IsIndexRole, blocks_in, named_in}
-use Rattle.pd_whole.proofs.ChargeLemmas.{whole_bad-append, whole_bad-cons}
-use Rattle.pd_whole.proofs.SumLemmas.{member_holds}
-use Rattle.pd_check.specs.ByKind.{graph_of_super}
-use Rattle.pd_check.specs.Counts.{ClaimsFew, count_reads, data_reads, meta_reads}
-use Rattle.pd_check.specs.Whole.{IsWhole}
+use Rattle.pd_tree.specs.Search.{HasCacheRoots, HasEraRoots, HasThinRoots, HasCacheTrees, HasEraTrees, HasThinTrees, IsTreeRole, IsTreeTo}
+use Rattle.pd_check.specs.Known.{IsKnown}
+use Rattle.pd_check.specs.Refs.{AreReachedOnce, InRole, IsIndexRole, blocks_in, named_in}
+use Rattle.pd_check.proofs.SharedLemmas.{whole_bad-append, whole_bad-cons}
+use Rattle.pd_check.proofs.NodeLemmas.{member_holds}
+use Rattle.pd_check.specs.Check.{graph_of_super, ClaimsFew, count_reads, data_reads, meta_reads, IsWhole}
 use Rattle.pd_check.proofs.CountLemmas.{data_number as counted_data, index_keys, map_number as counted_meta}
 
 -- the roles of index blocks

@@ -1,35 +1,68 @@
 -- The report of the stage Whole, after that of the order of the trees.
-use Rattle.std.proofs.Common.{◌≡◌, ℕ, ◌+◌, ◌*◌, ◌<◌, ◌≤◌, Bool, true, false, ◌||◌, ◌&&◌, cond, nat_eq, nat_lt, List, length, Option, IfSome, IfOk, Result, Ok, Err, refl, ap, sym, subst, ◌∙◌, arith}
+use Rattle.std.proofs.Common.{◌≡◌, ℕ, Bool, true, false, cond, nat_lt, List, [], ◌∷◌, ◌++◌, length, refl, ap, ◌∙◌, ◌+◌, ◌*◌, ◌<◌, ◌≤◌, ◌||◌, ◌&&◌, nat_eq, Option, IfSome, IfOk, Result, Ok, Err, sym, subst, arith}
 use Rattle.std.specs.List.{flat_map, range_with_len}
 use Rattle.std.proofs.lemmas.Bool.{both_ways, lt-ltb}
 use Rattle.std.proofs.lemmas.Option.{IfSome_then}
 use Rattle.pd_kinds.specs.declared.kind.Kind.{Kind}
 use Rattle.pd_kinds.specs.declared.kind.Stage.{Stage}
+use Rattle.pd_kinds.specs.declared.rule.Fault.{Fault}
+use Rattle.pd_kinds.specs.Stages.{Checked, checked_of, faults, first_failing, stage_faults, stages_to, block_faults, count_faults}
+use Rattle.pd_kinds.specs.Whole.{whole_bad, WholeTest}
+use Rattle.pd_kinds.proofs.SuperStage.{chosen}
 use Rattle.pd_kinds.specs.declared.kind.Stage.TheVariants.{Order, Whole, Counts}
 use Rattle.pd_kinds.specs.declared.rule.Rule.{Rule}
-use Rattle.pd_kinds.specs.declared.fault.Fault.{Fault}
-use Rattle.pd_kinds.specs.Faults.{faults_at}
-use Rattle.pd_kinds.specs.declared.check_fault.CheckFault.{CheckFault}
+use Rattle.pd_kinds.specs.Rule.{faults_at, Reported, report_of}
+use Rattle.pd_kinds.specs.declared.report.CheckFault.{CheckFault}
 use Rattle.pd_kinds.specs.declared.report.Report.{Report}
-use Rattle.pd_kinds.specs.Report.{Reported, report_of}
 use Rattle.pd_kinds.specs.Graph.{Graph, is_reached, nodes}
 use Rattle.pd_kinds.specs.Lawful.{IsLawful}
-use Rattle.pd_kinds.specs.Stages.{checked_of, faults, block_faults, count_faults}
-use Rattle.pd_kinds.specs.Whole.{WholeTest, whole_bad}
+use Rattle.pd_kinds.proofs.ResultLemmas.{if_any, if_both}
+use Rattle.pd_kinds.specs.declared.kind.Stage.TheVariants as stages
 use Rattle.pd_graph.specs.declared.audit.Audit.{Audit}
 use Rattle.pd_graph.specs.Audit.{blocks_of, has_rule_at}
 use Rattle.pd_graph.specs.Walk.{IsWalked}
-use Rattle.pd_graph.proofs.AnyLemmas.{if_both, if_any}
 use Rattle.pd_settle.specs.Settled.{IsSettled, KeepsMet}
-use Rattle.pd_whole.specs.Charges.{Charges}
-use Rattle.pd_whole.specs.Known.{IsWellSettled, IsKnown}
-use Rattle.pd_check.specs.ByKind.{super_bad_of, graph_of_super}
-use Rattle.pd_check.specs.Check.{IsFirstBlock, goes_past_walk, past_faults}
-use Rattle.pd_check.specs.Counts.{ClaimsFew, count_reads}
-use Rattle.pd_check.specs.Whole.{IsOrdered, IsWhole}
-use Rattle.pd_check.proofs.CheckLemmas.{first_at, same_graph, past_report}
-use Rattle.pd_check.proofs.StageLemmas.{up_to_whole, up_to_counts}
-use Rattle.pd_check.proofs.WalkReport.{walked_blocks, none_listed, none_reported}
+use Rattle.pd_check.specs.Known.{Charges, IsWellSettled, IsKnown}
+use Rattle.pd_check.specs.Check.{super_bad_of, graph_of_super, IsFirstBlock, goes_past_walk, past_faults, ClaimsFew, count_reads, IsOrdered, IsWhole}
+use Rattle.pd_check.proofs.CheckLemmas.{first_at, same_graph, past_report, walked_blocks, none_listed, none_reported}
+
+-- The faults of the stage Whole, behind those of the stages before it.
+
+-- a list that was chosen is chosen again
+chosen_again : (some : Bool) (first second third : List Fault) → some ≡ nat_lt 0 (length first)
+    → cond some first (cond (nat_lt 0 (length second)) second third) ≡ cond (nat_lt 0 (length (cond some first second))) (cond some first second) third
+chosen_again true first second third is = ap (λ (b : Bool). cond b first third) is
+chosen_again false first second third is = refl
+
+-- the first of more stages that fails
+first_failing-append : (checked : Checked) (image : List (List ℕ)) (xs ys : List Stage)
+    → first_failing checked image (xs ++ ys) ≡ cond (nat_lt 0 (length (first_failing checked image xs))) (first_failing checked image xs) (first_failing checked image ys)
+unfolding first_failing
+first_failing-append checked image [] ys = refl
+first_failing-append checked image (x ∷ xs) ys =
+    ap (λ (rest : List Fault). cond (nat_lt 0 (length (stage_faults checked image x))) (stage_faults checked image x) rest) (first_failing-append checked image xs ys)
+    ∙ chosen_again (nat_lt 0 (length (stage_faults checked image x))) (stage_faults checked image x) (first_failing checked image xs) (first_failing checked image ys) refl
+
+-- the faults up to the stage Whole
+pub up_to_whole : (kind : Kind) (image : List (List ℕ))
+    → faults kind stages.Whole image
+    ≡ cond (nat_lt 0 (length (faults kind stages.Order image))) (faults kind stages.Order image) (block_faults (checked_of kind image).graph.nr (whole_bad (checked_of kind image).whole))
+unfolding faults first_failing
+up_to_whole kind image =
+    let checked = checked_of kind image in
+    first_failing-append checked image (stages_to stages.Order) (stages.Whole ∷ [])
+    ∙ ap (λ (last : List Fault). cond (nat_lt 0 (length (faults kind stages.Order image))) (faults kind stages.Order image) last)
+    (chosen (block_faults checked.graph.nr (whole_bad checked.whole)))
+
+-- the faults up to the stage Counts
+pub up_to_counts : (kind : Kind) (image : List (List ℕ))
+    → faults kind stages.Counts image ≡ cond (nat_lt 0 (length (faults kind stages.Whole image))) (faults kind stages.Whole image) (count_faults (checked_of kind image) image)
+unfolding faults first_failing
+up_to_counts kind image =
+    let checked = checked_of kind image in
+    first_failing-append checked image (stages_to stages.Whole) (stages.Counts ∷ [])
+    ∙ ap (λ (last : List Fault). cond (nat_lt 0 (length (faults kind stages.Whole image))) (faults kind stages.Whole image) last)
+    (chosen (count_faults checked image))
 
 -- settling without a rule that it marks, after a walk without a rule
 pub well_settled : (held : Option (List (List ℕ))) (graph : Graph) (first audit : Audit) (count : ℕ) (report : Reported) → count ≡ graph.nr

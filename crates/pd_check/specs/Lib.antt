@@ -1,4 +1,5 @@
-pub mod ByKind
 pub mod Check
-pub mod Whole
-pub mod Counts
+pub mod Arrays
+pub mod Known
+pub mod Refs
+pub mod Counter

@@ -1,12 +1,10 @@
-//! The check of a device, stage by stage.
+//! The check of a device, stage by stage (`thin_check`, `cache_check`, `era_check`).
 
 ghost use Rattle.std.specs.Prelude.{◌≡◌, ◌+◌, IfOk, IfSome};
 ghost use Rattle.pd_kinds.specs.declared.kind.Stage.TheVariants.{Counts};
 ghost use Rattle.pd_kinds.specs.CheckFault.{CountsCheckFault, StopsEarly};
 ghost use Rattle.pd_kinds.specs.Stages.{faults};
-ghost use Rattle.pd_kinds.specs.Report.{report_of};
-ghost use Rattle.pd_kinds.specs.RuleSet.{has_rule};
-ghost use Rattle.pd_kinds.specs.Faults.{faults_at};
+ghost use Rattle.pd_kinds.specs.Rule.{report_of, has_rule, faults_at};
 ghost use Rattle.pd_image.specs.Device.{IsAttached, OnlyReads};
 ghost use Rattle.pd_check.specs.Check.{IsFirstBlock, MayWantMemory, ReadsFew};
 
@@ -40,7 +38,8 @@ pub fn check<M: Metadata, D: Device>(
     ensures report { IfOk result (λ report. IfSome (D.state dev.old).held (λ image. report ≡ report_of (faults M.kind until image))) }
     ensures memory { MayWantMemory M.kind until (D.state dev.old).held result }
     ensures early { (until ≡ Counts → ⊥) → StopsEarly result ((D.state dev.old).reads + 1) (D.state dev.new).reads }
-    ensures reads { IfSome (D.state dev.old).held (λ image. ReadsFew M.kind until image ((D.state dev.old).reads + 1) (D.state dev.new).reads) }
+    ensures reads { IfSome (D.state dev.old).held
+        (λ image. ReadsFew M.kind until image ((D.state dev.old).reads + 1) (D.state dev.new).reads) }
     ensures kept { OnlyReads (D.state dev.old) (D.state dev.new) }
     ensures faults { CountsCheckFault result (D.state dev.old).faults (D.state dev.new).faults }
 {

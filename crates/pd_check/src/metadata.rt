@@ -1,20 +1,18 @@
-//! A kind of metadata, as a check sees it.
+//! A kind of metadata, as a check sees it (`thin_check`, `cache_check`, `era_check`).
 
 ghost use Rattle.std.specs.Prelude.{◌≡◌, ◌≤◌, ◌+◌, ◌*◌, ◌<◌, ℕ, List, false, length, IfOk, OnOk, IfSome};
 ghost use Rattle.pd_kinds.specs.declared.kind.Kind.{Kind};
 ghost use Rattle.pd_kinds.specs.declared.rule.Rule.{Rule as BrokenRule};
 ghost use Rattle.pd_kinds.specs.Objects.{CountsFault};
-ghost use Rattle.pd_kinds.specs.RuleSet.{has_rule};
+ghost use Rattle.pd_kinds.specs.Rule.{has_rule};
 ghost use Rattle.pd_kinds.specs.Graph.{is_reached, nodes};
 ghost use Rattle.pd_kinds.specs.Stages.{checked_of};
 ghost use Rattle.pd_image.specs.Device.{IsAttached, OnlyReads};
 ghost use Rattle.pd_graph.specs.Audit.{blocks_of};
-ghost use Rattle.pd_graph.specs.Watch.{no_pairs};
-ghost use Rattle.pd_whole.specs.Charges.{Charges};
-ghost use Rattle.pd_check.specs.ByKind.{data_space_of, graph_of_super, meta_map_of, super_bad_of};
-ghost use Rattle.pd_check.specs.Whole.{IsOrdered};
+ghost use Rattle.pd_graph.specs.Format.{no_pairs};
+ghost use Rattle.pd_check.specs.Known.{Charges};
+ghost use Rattle.pd_check.specs.Check.{data_space_of, graph_of_super, meta_map_of, super_bad_of, IsOrdered};
 
-use crate::data_space::DataSpace;
 use pd_graph::{Audit, Format, Watch};
 use pd_image::{Device, Failed};
 use pd_kinds::{Block, Rules, SmRoot};
@@ -53,9 +51,10 @@ pub trait Metadata {
 
     /// Takes the memory that the rules of the whole image need, where this is block 0. Want of it is the only
     /// error.
-    fn room(alloc: Global, b: &Block) -> Result<Self::WholeMemory, AllocError>
+    fn whole_memory(alloc: Global, b: &Block) -> Result<Self::WholeMemory, AllocError>
         ensures room { IfOk result (λ room. Self.WholeMemory.has_room room (graph_of_super kind b.now.0)) }
-        ensures unseen { IfOk result (λ room. (image : List (List ℕ)) → Self.WholeMemory.has_seen room (graph_of_super kind b.now.0) image no_pairs) };
+        ensures unseen { IfOk result (λ room. (image : List (List ℕ))
+            → Self.WholeMemory.has_seen room (graph_of_super kind b.now.0) image no_pairs) };
 
     /// Gives each block the rules of the whole image that it breaks, where this is block 0 and no block has a
     /// rule up to the order of the trees. It takes no memory.
@@ -82,4 +81,15 @@ pub trait Metadata {
             → (D.state dev.new).reads ≤ (D.state dev.old).reads + 2 * length (nodes (graph_of_super kind b.now.0) image)) }
         ensures kept { OnlyReads (D.state dev.old) (D.state dev.new) }
         ensures faults { CountsFault result (D.state dev.old).faults (D.state dev.new).faults };
+}
+
+// What a check counts references to.
+
+/// The data blocks that metadata counts: the root of their space map, and the role of the blocks that refer to them.
+#[derive(Clone, Copy, Debug, PartialEq, Eq)]
+pub struct DataSpace {
+    /// The root of the map that stores their counts.
+    pub root: SmRoot,
+    /// The one role in which blocks name data blocks.
+    pub role: u8,
 }

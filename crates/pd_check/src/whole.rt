@@ -1,35 +1,33 @@
 //! The stages of the whole image and of the counts, after the order of the trees.
+//! Serves `thin_check`, `cache_check`, `era_check`.
 
 ghost use Rattle.std.specs.Prelude.{◌≡◌, ℕ, ◌+◌, ◌*◌, ◌<◌, ◌≤◌, List, false, length, IfOk, IfSome, OnOk};
 ghost use Rattle.std.specs.List.{flat_map, range_with_len};
-ghost use Rattle.pd_kinds.specs.Faults.{faults_at};
+ghost use Rattle.pd_kinds.specs.Rule.{faults_at, report_of};
 ghost use Rattle.pd_kinds.specs.declared.kind.Stage.TheVariants.{Counts, Whole};
 ghost use Rattle.pd_kinds.specs.declared.rule.Rule.{Rule};
 ghost use Rattle.pd_kinds.specs.CheckFault.{CountsCheckFault, StopsEarly};
 ghost use Rattle.pd_kinds.specs.Objects.{CountsFault};
-ghost use Rattle.pd_kinds.specs.Report.{report_of};
 ghost use Rattle.pd_kinds.specs.Graph.{is_reached, nodes};
 ghost use Rattle.pd_kinds.specs.Stages.{block_faults, checked_of, faults};
 ghost use Rattle.pd_kinds.specs.Whole.{whole_bad};
 ghost use Rattle.pd_image.specs.Device.{IsAttached, OnlyReads};
 ghost use Rattle.pd_graph.specs.Audit.{blocks_of, has_rule_at};
-ghost use Rattle.pd_graph.specs.Watch.{no_pairs};
-ghost use Rattle.pd_whole.specs.Known.{IsKnown};
-ghost use Rattle.pd_check.specs.ByKind.{graph_of_super, super_bad_of};
-ghost use Rattle.pd_check.specs.Check.{IsFirstBlock, reads_of};
-ghost use Rattle.pd_check.specs.Whole.{IsOrdered, IsWhole};
+ghost use Rattle.pd_graph.specs.Format.{no_pairs};
+ghost use Rattle.pd_check.specs.Known.{IsKnown};
+ghost use Rattle.pd_check.specs.Check.{graph_of_super, super_bad_of, IsFirstBlock, reads_of, IsOrdered, IsWhole};
 
-use crate::both::Both;
-use crate::claims::{bitmaps_are_no_more_than_blocks, claims_few};
-use crate::counts::{count_report, ref_counter};
-use crate::later_stages::walk_and_settle;
+use crate::counter::RefCounter;
+use crate::counts::{
+    bitmaps_are_no_more_than_blocks, claims_few, count_report, counts_read_no_more_than_nodes,
+    ref_counter,
+};
+use crate::later_stages::{walk_and_settle, walk_report};
+use crate::laws::settled_audits_are_known;
 use crate::metadata::Metadata;
-use crate::read_bounds::counts_read_no_more_than_nodes;
-use crate::walked::walk_report;
-use pd_graph::{Audit, NoWatch, Watch};
+use pd_graph::{Audit, Format, NoWatch, Watch};
 use pd_image::{Device, Failed};
-use pd_kinds::{Block, CheckFault, Report, Stage};
-use pd_whole::{RefCounter, settled_audits_are_known};
+use pd_kinds::{Block, CheckFault, Report, Rules, Stage};
 use std::alloc::Global;
 
 /// Looks at all that block 0, which breaks no rule, leads to, and where no block breaks a rule up to the order
@@ -87,7 +85,8 @@ pub(crate) fn check_whole_watched<M: Metadata, D: Device, W: Watch + Drop>(
     ensures within { OnOk result ((graph_of_super M.kind first.now.0).nr ≤ (D.state dev.old).blocks) }
 
     // Where nothing was found, the audit knows the image.
-    ensures whole { IfOk result (λ found. IfSome (D.state dev.old).held (λ image. found.1.total ≡ 0 → IsWhole M.kind first.now.0 image found.0)) }
+    ensures whole { IfOk result (λ found. IfSome (D.state dev.old).held
+        (λ image. found.1.total ≡ 0 → IsWhole M.kind first.now.0 image found.0)) }
     ensures seen { IfOk result (λ found. IfSome (D.state dev.old).held (λ image.
         W.has_seen found.2 (graph_of_super M.kind first.now.0) image (is_reached (graph_of_super M.kind first.now.0) image))) }
     ensures room { IfOk result (λ found. W.has_room found.2 (graph_of_super M.kind first.now.0)) }
@@ -98,7 +97,7 @@ pub(crate) fn check_whole_watched<M: Metadata, D: Device, W: Watch + Drop>(
     ensures faults { CountsCheckFault result (D.state dev.old).faults (D.state dev.new).faults }
 {
     settled_audits_are_known();
-    let room = M::room(alloc, first)?;
+    let room = M::whole_memory(alloc, first)?;
     let mut both = Both {
         first: room,
         second: watch,
@@ -182,7 +181,8 @@ fn whole_report<M: Metadata, D: Device>(
         → M.WholeMemory.has_seen room (graph_of_super M.kind first.now.0) image (is_reached (graph_of_super M.kind first.now.0) image)
         → IsKnown (graph_of_super M.kind first.now.0) image audit.new)) }
     ensures number { blocks_of audit.new ≡ blocks_of audit.old }
-    ensures told { IfOk result (λ report. report ≡ report_of (flat_map (λ b. faults_at b (has_rule_at audit.new b)) (range_with_len 0 (blocks_of audit.new)))) }
+    ensures told { IfOk result (λ report. report ≡ report_of (flat_map
+        (λ b. faults_at b (has_rule_at audit.new b)) (range_with_len 0 (blocks_of audit.new)))) }
     ensures reads { IfSome (D.state dev.old).held (λ image. IsOrdered M.kind first.now.0 image audit.old
         → (D.state dev.new).reads ≤ (D.state dev.old).reads + 2 * length (nodes (graph_of_super M.kind first.now.0) image)) }
     ensures kept { OnlyReads (D.state dev.old) (D.state dev.new) }
@@ -190,4 +190,27 @@ fn whole_report<M: Metadata, D: Device>(
 {
     M::mark_whole(room, first, audit, dev)?;
     Ok(walk_report(audit))
+}
+
+// Two watchers of one walk.
+
+/// Two that watch one walk.
+#[derive(Drop)]
+pub(crate) struct Both<A, B> {
+    pub(crate) first: A,
+    pub(crate) second: B,
+}
+
+impl<A: Watch, B: Watch> Watch for Both<A, B> {
+    ghost has_room = { λ both graph. A.has_room both.first graph × B.has_room both.second graph };
+
+    ghost has_seen = { λ both graph image pairs. A.has_seen both.first graph image pairs × B.has_seen both.second graph image pairs };
+
+    ghost same = { λ both graph image pairs others are seen.
+        (A.same both.first graph image pairs others are seen.0, B.same both.second graph image pairs others are seen.1) };
+
+    fn see<F: Format>(&mut self, format: &F, role: u8, b: u64, block: &Block, broken: &Rules) {
+        self.first.see(format, role, b, block, broken);
+        self.second.see(format, role, b, block, broken);
+    }
 }

@@ -1,7 +1,6 @@
 -- What one number that is put in one chunk comes to for all blocks, and one count more.
 use Rattle.std.proofs.Common.{◌≡◌, ◌≢◌, ℕ, ◌+◌, ◌*◌, ◌/◌, ◌%◌, ◌<◌, ◌≤◌, min, List, [], ◌∷◌, ◌++◌, length, get_or, sym, ◌∙◌, ap, refl, arith, inl, inr, eqb, cond}
 use Rattle.std.specs.Prelude.{count_by}
-use Rattle.std.proofs.lemmas.List.{get_or_default}
 use Rattle.std.proofs.lemmas.List.Sums.{sum_by_push}
 use Rattle.std.proofs.lemmas.Bool.{cases_eq, eq-eqb, ne_eqb}
 use Rattle.std.proofs.Math.Nat.{div-add-mod}
@@ -10,13 +9,6 @@ use Rattle.pd_count.specs.Counted.{Counted, count_of, HasCounted, CountsOneMore,
 -- the table of these chunks
 abbrev table : ℕ → List (List ℕ) → Counted
 table size chunks = record { size = size; chunks = chunks }
-
--- the count of a block by its chunk
-pub count_in_chunk : (size : ℕ) (chunks : List (List ℕ)) (b : ℕ) (numbers : List ℕ) → b / 16320 < length chunks
-    → numbers ≡ get_or chunks (b / 16320) numbers → count_of (table size chunks) b ≡ get_or numbers (b % 16320) 0
-unfolding count_of
-count_in_chunk size chunks b numbers within read =
-    ap (λ (c : List ℕ). get_or c (b % 16320) 0) (sym (read ∙ get_or_default chunks (b / 16320) numbers [] within))
 
 -- blocks of one chunk that stand at one place in it are one block
 same_block : (b c : ℕ) → c / 16320 ≡ b / 16320 → c % 16320 ≡ b % 16320 → c ≡ b

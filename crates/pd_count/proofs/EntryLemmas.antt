@@ -13,7 +13,7 @@ use Rattle.std.proofs.lemmas.List.FromFn.{sum_by-map-range_with_len_more}
 use Rattle.std.proofs.lemmas.List.Sorted.{IsNonDecreasingBy-from_default}
 use Rattle.std.proofs.lemmas.List.Sums.{sum_by-cons}
 use Rattle.pd_count.specs.declared.few.Entry.{Entry}
-use Rattle.pd_count.specs.Forms.{AreEntries, IsAt, IsGapFor, Puts, entered, place_at}
+use Rattle.pd_count.specs.Counted.{AreEntries, IsAt, IsGapFor, Puts, entered, place_at}
 
 -- what is read where no entry is
 abbrev pub nothing : Entry
@@ -216,7 +216,7 @@ entered_put l are i p n old new within place is puts so_far k below =
 
 -- How many places have no number.
 
-abbrev one_if : Bool → ℕ
+abbrev pub one_if : Bool → ℕ
 one_if passes = cond passes 1 0
 
 abbrev is_zero : ℕ → ℕ

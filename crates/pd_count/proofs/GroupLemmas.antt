@@ -5,8 +5,7 @@ use Rattle.std.proofs.lemmas.Bool.{cases_eq, cases_lt}
 use Rattle.std.proofs.lemmas.List.{get_or_default, get_or_past}
 use Rattle.std.proofs.lemmas.List.FromFn.{get_or-map-range_with_len, length-map-range_with_len}
 use Rattle.std.proofs.Math.Nat.{div-add-mod}
-use Rattle.pd_count.specs.Counted.{Counted, count_of, PutsNumber}
-use Rattle.pd_count.specs.Groups.{Grouped, PutsInGroup, chunk_in, chunk_of, chunks_in, no_group}
+use Rattle.pd_count.specs.Counted.{Counted, count_of, PutsNumber, Grouped, PutsInGroup, chunk_in, chunk_of, chunks_in, no_group}
 use Rattle.pd_count.proofs.CountLemmas.{PutsChunk, chunk_counts, none_counted, puts_by_chunk}
 use Rattle.pd_count.proofs.PlaceLemmas.{none_made}
 

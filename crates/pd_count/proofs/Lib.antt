@@ -1,6 +1,5 @@
-pub mod CountLemmas
-pub mod DigitLemmas
-pub mod EntryLemmas
-pub mod FormLemmas
 pub mod GroupLemmas
+pub mod FormLemmas
+pub mod EntryLemmas
 pub mod PlaceLemmas
+pub mod CountLemmas

@@ -2,15 +2,13 @@
 use Rattle.std.proofs.Common.{◌≡◌, ◌≢◌, ◌⊎◌, ℕ, zero, suc, ◌+◌, ◌-◌, ◌*◌, ◌%◌, ◌^◌, ◌<◌, ◌≤◌, min, Bool, true, cond, eqb, List, [], length, get_or, set, inl, inr, refl, sym, ◌∙◌, ap, subst, arith, bit_and, bit_or, count_ones, get_or-set_same, get_or-set_other}
 use Rattle.std.specs.Int.{bit_at, w64}
 use Rattle.std.specs.List.{insert}
-use Rattle.std.proofs.Math.Nat.{pow-suc}
 use Rattle.std.proofs.lemmas.Bool.{cases_eq, cases_lt, eq-eqb, ne_eqb}
 use Rattle.std.proofs.lemmas.Bool.Decides.{nat_tests}
 use Rattle.std.proofs.lemmas.List.{get_or_default}
 use Rattle.std.proofs.lemmas.List.Edits.{length-insert, get_or-insert_below, get_or-insert_at, get_or-insert_above}
 use Rattle.std.proofs.lemmas.Nat.{and_mask, mod-pow-add, ones_cat, pow_pos}
 use Rattle.std.proofs.lemmas.Nat.Bits.{bit_at-lt, bit_at-zero, bit_at_set_same, bit_at_set_other}
-use Rattle.pd_count.specs.Counted.{PutsAt}
-use Rattle.pd_count.specs.Groups.{Grouped, IsPlace, PutsInGroup, chunk_of, made_before, no_group}
+use Rattle.pd_count.specs.Counted.{PutsAt, Grouped, IsPlace, PutsInGroup, chunk_of, made_before, no_group}
 
 -- the one bit of a number below 2
 ones_bit : (b : ℕ) → b < 2 → count_ones b ≡ b
@@ -35,14 +33,6 @@ before_suc m i =
 before_zero : (m : ℕ) → made_before m 0 ≡ 0
 unfolding made_before
 before_zero m = let e : m % 1 ≡ 0 = omega arith in ap count_ones e ∙ ones_bit 0 (omega arith)
-
--- so many bits, all of which are set
-ones_full : (i : ℕ) → count_ones (2 ^ i - 1) ≡ i
-ones_full zero = ones_bit 0 (omega arith)
-ones_full (suc i) =
-    let e : 2 ^ suc i - 1 ≡ 1 * 2 ^ i + (2 ^ i - 1) = omega (arith, pow-suc 2 i, pow_pos i) in
-    let one : count_ones 1 ≡ 1 = ones_bit 1 (omega arith) in
-    ap count_ones e ∙ (ones_cat i 1 (2 ^ i - 1) (omega (arith, pow_pos i)) ∙ omega (arith, ones_full i, one))
 
 -- what the bits below a bit come to, by the mask
 pub before_some : (m i one : ℕ) → one ≡ 2 ^ i → count_ones (bit_and m (one - 1)) ≡ made_before m i
@@ -78,9 +68,6 @@ module _ (m n i : ℕ) (was : bit_at m i ≡ 0) (is : bit_at n i ≡ 1) (others 
     | inr apart ↦ omega (arith, before_suc n j, before_suc m j, others j apart, before_high j (omega arith))
   ]
 
-is_one : (n : ℕ) (test : Bool) → test ≡ eqb n 1 → test ≡ true → n ≡ 1
-is_one n test is set = grind (arith, nat_tests)
-
 abbrev group : ℕ → List (List ℕ) → Grouped
 group m chunks = record { made = m; chunks = chunks }
 
@@ -102,10 +89,9 @@ pub first_count : (g : Grouped) (i at : ℕ) → bit_at g.made i ≡ 0 → 1 ≡
 first_count g i at unset = ap (λ (xs : List ℕ). min (get_or xs at 0 + 1) 4294967295) (sym (chunk_missing g i unset))
 
 -- a chunk that is made stands among those that are made
-pub stands_at : (m : ℕ) (chunks : List (List ℕ)) (i p : ℕ) (test : Bool) → test ≡ eqb (bit_at m i) 1 → test ≡ true → p ≡ made_before m i → i < 64
+pub stands_at : (m : ℕ) (chunks : List (List ℕ)) (i p : ℕ) → bit_at m i ≡ 1 → p ≡ made_before m i → i < 64
     → length chunks ≡ made_before m 64 → IsPlace m (length chunks) i p
-stands_at m chunks i p test is set stands within size =
-    let one : bit_at m i ≡ 1 = is_one (bit_at m i) test is set in
+stands_at m chunks i p one stands within size =
     record { set = one; place = stands; within = omega (arith, before_less m i 64 one within, stands, size) }
 
 -- a bit is set or it isn't

@@ -1,6 +1,7 @@
 //! The numbers of the blocks that one bitmap covers.
 
-ghost use Rattle.std.specs.Prelude.{◌≡◌, ℕ, ◌+◌, ◌-◌, ◌^◌, ◌<◌, ◌≤◌, ◌==◌, [], true, false, take, length, slice_index, IfOk, OnOk, OnErr, MatchOption, min};
+ghost use Rattle.std.specs.Prelude.{◌≡◌, ℕ, ◌+◌, ◌-◌, ◌^◌, ◌<◌, ◌≤◌, ◌==◌, [], true, false, take, length};
+ghost use Rattle.std.specs.Prelude.{slice_index, IfOk, OnOk, OnErr, MatchOption, min};
 ghost use Rattle.std.specs.List.{count_by};
 
 use crate::few::{self, Entry};
@@ -37,7 +38,7 @@ pub struct Chunk {
 
 impl Model for Chunk {
     ghost use Rattle.std.specs.Prelude.{List, ℕ};
-    ghost use Rattle.pd_count.specs.Forms.{IsForm, form_numbers};
+    ghost use Rattle.pd_count.specs.Counted.{IsForm, form_numbers};
 
     ghost Value = { List ℕ };
 
@@ -192,7 +193,8 @@ impl Chunk {
         requires from { from ≤ 16320 }
         requires least { 0 < least }
         ensures { MatchOption result ((k : ℕ) → from ≤ k → slice_index self.now k < least)
-            (λ at. (from ≤ at) × ((at < 16320) × ((least ≤ slice_index self.now at) × ((k : ℕ) → from ≤ k → k < at → slice_index self.now k < least)))) }
+            (λ at. (from ≤ at) × ((at < 16320) × ((least ≤ slice_index self.now at)
+            × ((k : ℕ) → from ≤ k → k < at → slice_index self.now k < least)))) }
     {
         match &self.form {
             Form::Few(entries) => few::first_entered(entries, from, least),

@@ -23,7 +23,7 @@ pub struct Counts {
 impl Model for Counts {
     ghost use Rattle.std.specs.Prelude.{◌≡◌, ℕ, ◌+◌, ◌/◌, ◌≤◌, length};
     ghost use Rattle.pd_count.specs.Counted.{Counted, count_of};
-    ghost use Rattle.pd_count.specs.Groups.{chunks_in};
+    ghost use Rattle.pd_count.specs.Counted.{chunks_in};
 
     ghost Value = { Counted };
 
@@ -76,7 +76,8 @@ impl Counts {
         ensures put { OnOk result (PutsNumber b (min (count_of self.old b + 1) (2 ^ 32 - 1)) self.old self.new) }
         // So it is one count more, unless there is no greater one.
         ensures added { OnOk result (count_of self.old b < 2 ^ 32 - 1 → CountsOneMore b self.old self.new) }
-        ensures listed { OnOk result (count_of self.old b < 2 ^ 32 - 1 → (before : List ℕ) → HasCounted self.old before → HasCounted self.new (before ++ b ∷ [])) }
+        ensures listed { OnOk result (count_of self.old b < 2 ^ 32 - 1
+            → (before : List ℕ) → HasCounted self.old before → HasCounted self.new (before ++ b ∷ [])) }
         ensures err { OnErr result (self.new ≡ self.old) }
     {
         let i = (b / CHUNK_COUNTS as u64) as usize;

@@ -3,9 +3,10 @@
 //! The lowest digits of all places stand first, then the second ones, and so on, as far as a number that was put
 //! needs them: 16320 bytes where all numbers are below 256, 32640 where all are below 65536, and 65280 else.
 
-ghost use Rattle.std.specs.Prelude.{◌≡◌, ◌≢◌, ℕ, ◌+◌, ◌*◌, ◌%◌, ◌^◌, ◌<◌, ◌≤◌, ◌==◌, true, false, length, map, slice_index, IfOk, OnOk, OnErr, MatchOption};
+ghost use Rattle.std.specs.Prelude.{◌≡◌, ◌≢◌, ℕ, ◌+◌, ◌*◌, ◌%◌, ◌^◌, ◌<◌, ◌≤◌, ◌==◌, true, false, length};
+ghost use Rattle.std.specs.Prelude.{map, slice_index, IfOk, OnOk, OnErr, MatchOption};
 ghost use Rattle.std.specs.List.{count_by, range_with_len};
-ghost use Rattle.pd_count.specs.Forms.{AreDigits, AreEntries, HasRoom, Puts, digits_number, entered};
+ghost use Rattle.pd_count.specs.Counted.{AreDigits, AreEntries, HasRoom, Puts, digits_number, entered};
 
 use crate::CHUNK_COUNTS;
 use crate::few::Entry;
@@ -25,7 +26,8 @@ fn digit(digits: &[u8], i: usize) -> u32
 /// The number of a place, without its lowest digit.
 fn high(digits: &[u8], at: usize) -> u32
     requires { at < 16320 }
-    ensures number { result ≡ slice_index digits.now (16320 + at) + 256 * (slice_index digits.now (32640 + at) + 256 * slice_index digits.now (48960 + at)) }
+    ensures number { result ≡ slice_index digits.now (16320 + at)
+        + 256 * (slice_index digits.now (32640 + at) + 256 * slice_index digits.now (48960 + at)) }
     ensures most { result < 2 ^ 24 }
 {
     let second = digit(digits, CHUNK_COUNTS + at);
@@ -63,7 +65,7 @@ fn digits_of(number: u32) -> usize
 }
 
 /// Makes room for the number, and leaves all numbers as they are. Want of memory leaves all as before.
-fn make_room(digits: &mut Vec<u8>, number: u32) -> Result<(), AllocError>
+fn take_memory(digits: &mut Vec<u8>, number: u32) -> Result<(), AllocError>
     requires { length digits.old.items % 16320 ≡ 0 }
     ensures digits { OnOk result (AreDigits digits.new.items) }
     ensures room { OnOk result (HasRoom number (length digits.new.items)) }
@@ -119,7 +121,7 @@ pub(crate) fn put(digits: &mut Vec<u8>, at: usize, number: u32) -> Result<(), Al
         digits[at] = number as u8;
         return Ok(());
     }
-    make_room(digits, number)?;
+    take_memory(digits, number)?;
     write(digits, at, number);
     Ok(())
 }
@@ -148,7 +150,7 @@ pub(crate) fn spread(alloc: Global, entries: &[Entry]) -> Result<Vec<u8>, AllocE
     ensures numbers { IfOk result (λ digits. (k : ℕ) → k < 16320 → digits_number digits.items k ≡ entered entries.now k) }
 {
     let mut digits = Vec::new(alloc);
-    make_room(&mut digits, 0)?;
+    take_memory(&mut digits, 0)?;
     for i in 0..entries.len() {
         put(&mut digits, entries[i].place(), entries[i].number())?;
     }
@@ -173,7 +175,8 @@ pub(crate) fn zeros(digits: &[u8], covered: usize) -> usize
 pub(crate) fn first(digits: &[u8], from: usize, least: u32) -> Option<usize>
     requires { AreDigits digits.now }
     ensures { MatchOption result ((k : ℕ) → from ≤ k → k < 16320 → digits_number digits.now k < least)
-        (λ at. (from ≤ at) × ((at < 16320) × ((least ≤ digits_number digits.now at) × ((k : ℕ) → from ≤ k → k < at → digits_number digits.now k < least)))) }
+        (λ at. (from ≤ at) × ((at < 16320) × ((least ≤ digits_number digits.now at)
+        × ((k : ℕ) → from ≤ k → k < at → digits_number digits.now k < least)))) }
 {
     for at in from..CHUNK_COUNTS {
         if number(digits, at) >= least {
@@ -190,7 +193,8 @@ pub(crate) fn are_all(digits: &[u8], at: usize, len: usize, wanted: u32) -> bool
     ensures { result ≡ true → (k : ℕ) → k < len → digits_number digits.now (at + k) ≡ wanted }
 {
     if digits.len() == CHUNK_COUNTS && wanted < 256 {
-        return all_are(&digits[at..at + len], wanted as u8);
+        let wanted = wanted as u8;
+        return digits[at..at + len].iter().all(|digit| *digit == wanted);
     }
     for place in at..at + len {
         if number(digits, place) != wanted {
@@ -198,13 +202,6 @@ pub(crate) fn are_all(digits: &[u8], at: usize, len: usize, wanted: u32) -> bool
         }
     }
     true
-}
-
-/// Whether all of the digits are this one.
-fn all_are(digits: &[u8], wanted: u8) -> bool
-    ensures { result ≡ true → (k : ℕ) → k < length digits.now → slice_index digits.now k ≡ wanted }
-{
-    digits.iter().all(|digit| *digit == wanted)
 }
 
 /// Writes the numbers of all places.

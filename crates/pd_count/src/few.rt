@@ -1,8 +1,9 @@
 //! The numbers of few places of a chunk, as a list of the places that have one.
 
-ghost use Rattle.std.specs.Prelude.{◌≡◌, ℕ, ◌+◌, ◌<◌, ◌≤◌, ◌==◌, ◌&&◌, not, nat_lt, true, length, slice_index, IfOk, IfErr, OnOk, OnErr, MatchOption};
+ghost use Rattle.std.specs.Prelude.{◌≡◌, ℕ, ◌+◌, ◌<◌, ◌≤◌, ◌==◌, ◌&&◌, not, nat_lt, true, length};
+ghost use Rattle.std.specs.Prelude.{slice_index, IfOk, IfErr, OnOk, OnErr, MatchOption};
 ghost use Rattle.std.specs.List.{count_by};
-ghost use Rattle.pd_count.specs.Forms.{AreEntries, IsAt, IsGapFor, Puts, entered, place_at};
+ghost use Rattle.pd_count.specs.Counted.{AreEntries, IsAt, IsGapFor, Puts, entered, place_at};
 
 use std::alloc::AllocError;
 
@@ -107,7 +108,8 @@ pub(crate) fn first_entered(entries: &[Entry], from: usize, least: u32) -> Optio
     requires from { from ≤ 16320 }
     requires least { 0 < least }
     ensures { MatchOption result ((k : ℕ) → from ≤ k → k < 16320 → entered entries.now k < least)
-        (λ at. (from ≤ at) × ((at < 16320) × ((least ≤ entered entries.now at) × ((k : ℕ) → from ≤ k → k < at → entered entries.now k < least)))) }
+        (λ at. (from ≤ at) × ((at < 16320) × ((least ≤ entered entries.now at)
+        × ((k : ℕ) → from ≤ k → k < at → entered entries.now k < least)))) }
 {
     let start = begin(entries, from);
     for i in start..entries.len() {
@@ -126,17 +128,6 @@ pub(crate) fn copy(entries: &[Entry], numbers: &mut [u32])
     ensures numbers { (k : ℕ) → k < 16320 → slice_index numbers.new k ≡ entered entries.now k }
 {
     numbers.fill(0);
-    write_entered(entries, numbers);
-}
-
-/// Writes the number of each entry to its place, among zeros.
-fn write_entered(entries: &[Entry], numbers: &mut [u32])
-    requires entries { AreEntries entries.now }
-    requires size { length numbers.old ≡ 16320 }
-    requires none { (k : ℕ) → slice_index numbers.old k ≡ 0 }
-    ensures size { length numbers.new ≡ 16320 }
-    ensures numbers { (k : ℕ) → slice_index numbers.new k ≡ entered entries.now k }
-{
     for i in 0..entries.len() {
         numbers[entries[i].place()] = entries[i].number;
     }

@@ -1,9 +1,10 @@
 //! A group of chunks, each of which is made when a block in it is first counted.
 
-ghost use Rattle.std.specs.Prelude.{◌≡◌, ℕ, ◌+◌, ◌-◌, ◌^◌, ◌<◌, ◌≤◌, ◌==◌, [], length, slice_index, slice_index_or, IfOk, OnOk, OnErr, MatchOption, min};
+ghost use Rattle.std.specs.Prelude.{◌≡◌, ℕ, ◌+◌, ◌-◌, ◌^◌, ◌<◌, ◌==◌, [], length, slice_index};
+ghost use Rattle.std.specs.Prelude.{slice_index_or, IfOk, OnOk, OnErr, MatchOption, min};
 ghost use Rattle.std.specs.Int.{bit_at};
 ghost use Rattle.std.specs.List.{insert};
-ghost use Rattle.pd_count.specs.Groups.{made_before, no_group};
+ghost use Rattle.pd_count.specs.Counted.{made_before, no_group};
 
 use crate::chunk::Chunk;
 use std::alloc::{AllocError, Global};
@@ -26,7 +27,7 @@ pub(crate) struct Group {
 
 impl Model for Group {
     ghost use Rattle.std.specs.Prelude.{◌≡◌, length};
-    ghost use Rattle.pd_count.specs.Groups.{Grouped, made_before};
+    ghost use Rattle.pd_count.specs.Counted.{Grouped, made_before};
 
     ghost Value = { Grouped };
 
@@ -36,7 +37,7 @@ impl Model for Group {
 }
 
 impl Group {
-    ghost use Rattle.pd_count.specs.Groups.{IsPlace, PutsInGroup, chunk_of, no_group};
+    ghost use Rattle.pd_count.specs.Counted.{IsPlace, PutsInGroup, chunk_of, no_group};
 
     /// A group of which no chunk is made. It takes no memory.
     fn absent(alloc: Global) -> Group
@@ -53,7 +54,7 @@ impl Group {
         requires { i < 64 }
         ensures { MatchOption result (bit_at self.now.made i ≡ 0) (IsPlace self.now.made (length self.now.chunks) i) }
     {
-        if is_set(self.made, i) {
+        if (self.made >> i) % 2 == 1 {
             Some(set_below(self.made, i))
         } else {
             None
@@ -123,18 +124,11 @@ impl Group {
     {
         let mut chunk = Chunk::with_room(*self.chunks.allocator())?;
         chunk.set(at, number)?;
-        insert_exactly(&mut self.chunks, set_below(self.made, i), chunk)?;
+        self.chunks.reserve_exact(1)?;
+        self.chunks.insert(set_below(self.made, i), chunk)?;
         self.made |= 1 << i;
         Ok(())
     }
-}
-
-/// Whether bit `i` is set.
-fn is_set(bits: u64, i: usize) -> bool
-    requires { i < 64 }
-    ensures { result ≡ (bit_at bits i == 1) }
-{
-    (bits >> i) % 2 == 1
 }
 
 /// How many bits below bit `i` are set.
@@ -144,17 +138,6 @@ fn set_below(bits: u64, i: usize) -> usize
 {
     let below = (1 << i) - 1;
     (bits & below).count_ones() as usize
-}
-
-/// Inserts a chunk, in a list that takes no more memory than its chunks. Want of memory leaves the list as before.
-fn insert_exactly(chunks: &mut Vec<Chunk>, place: usize, chunk: Chunk) -> Result<(), AllocError>
-    requires { place ≤ length chunks.old.items }
-    ensures ok { OnOk result (chunks.new.items ≡ insert chunks.old.items place chunk) }
-    ensures err { OnErr result (chunks.new.items ≡ chunks.old.items) }
-{
-    chunks.reserve_exact(1)?;
-    chunks.insert(place, chunk)?;
-    Ok(())
 }
 
 /// So many groups that aren't made. It takes the memory of their list.

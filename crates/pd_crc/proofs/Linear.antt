@@ -1,10 +1,13 @@
 -- The steps of the checksum are linear over exclusive or, and halve an even number.
-use Rattle.std.proofs.Common.{◌≡◌, ℕ, zero, suc, ◌+◌, ◌*◌, ◌/◌, ◌%◌, ◌^◌, ◌<◌, ◌==◌, if◌then◌else◌, refl, ap, ap₂, sym, ◌∙◌, arith, add_comm, zero-add}
+use Rattle.std.proofs.Common.{◌≡◌, ℕ, zero, suc, ◌+◌, ◌*◌, ◌/◌, ◌%◌, ◌^◌, ◌<◌, ◌==◌, if◌then◌else◌, refl, ap, ap₂, sym, ◌∙◌, arith, add_comm, zero-add, List, map, get_or}
 use Rattle.std.proofs.Math.Nat.{pow-suc, suc-add}
 use Rattle.std.specs.Int.Bits.{bit_xor, xor_zero_r, xor_assoc, xor_shifted}
-use Rattle.std.proofs.lemmas.Nat.{xor_comm, xor_shr, xor_mod, pow-add}
-use Rattle.pd_kinds.specs.Checksum.{crc_bit}
+use Rattle.std.proofs.lemmas.Nat.{xor_comm, xor_shr, xor_mod, pow-add, shr-shr}
+use Rattle.std.specs.List.{range_with_len}
+use Rattle.std.proofs.lemmas.List.FromFn.{get_or-map-range_with_len}
+use Rattle.pd_kinds.specs.Field.{crc_bit}
 use Rattle.pd_crc.specs.Steps.{byte_step, byte_steps}
+use Rattle.pd_crc.specs.declared.tables.TheConstants.{AFTER_ONE, AFTER_TWO, AFTER_THREE, AFTER_FOUR, AFTER_THIRTEEN, AFTER_FOURTEEN, AFTER_FIFTEEN, AFTER_SIXTEEN}
 
 -- what an odd number's step adds
 abbrev polynomial_if : ℕ → ℕ
@@ -121,3 +124,81 @@ pub byte_steps-none : (count : ℕ) → byte_steps count 0 ≡ 0
 unfolding byte_steps
 byte_steps-none zero = refl
 byte_steps-none (suc count) = ap byte_step (byte_steps-none count) ∙ none_of_none
+
+-- Each table of the steps, computed entry by entry.
+
+-- each of the 256 entries of a table that is computed from the index
+entry_of : (f : ℕ → ℕ) (table : List ℕ) → table ≡ map f (range_with_len 0 256) → (i : ℕ) → i < 256 → get_or table i 0 ≡ f i
+entry_of f table computed i h = rw computed (get_or-map-range_with_len f 0 256 i i 0 h (omega arith))
+
+pub after_one : (i : ℕ) → i < 256 → get_or AFTER_ONE i 0 ≡ byte_steps 1 i
+unfolding byte_steps byte_step crc_bit
+after_one = entry_of (byte_steps 1) AFTER_ONE refl
+
+pub after_two : (i : ℕ) → i < 256 → get_or AFTER_TWO i 0 ≡ byte_steps 2 i
+unfolding byte_steps byte_step crc_bit
+after_two = entry_of (byte_steps 2) AFTER_TWO refl
+
+pub after_three : (i : ℕ) → i < 256 → get_or AFTER_THREE i 0 ≡ byte_steps 3 i
+unfolding byte_steps byte_step crc_bit
+after_three = entry_of (byte_steps 3) AFTER_THREE refl
+
+pub after_four : (i : ℕ) → i < 256 → get_or AFTER_FOUR i 0 ≡ byte_steps 4 i
+unfolding byte_steps byte_step crc_bit
+after_four = entry_of (byte_steps 4) AFTER_FOUR refl
+
+pub after_thirteen : (i : ℕ) → i < 256 → get_or AFTER_THIRTEEN i 0 ≡ byte_steps 13 i
+unfolding byte_steps byte_step crc_bit
+after_thirteen = entry_of (byte_steps 13) AFTER_THIRTEEN refl
+
+pub after_fourteen : (i : ℕ) → i < 256 → get_or AFTER_FOURTEEN i 0 ≡ byte_steps 14 i
+unfolding byte_steps byte_step crc_bit
+after_fourteen = entry_of (byte_steps 14) AFTER_FOURTEEN refl
+
+pub after_fifteen : (i : ℕ) → i < 256 → get_or AFTER_FIFTEEN i 0 ≡ byte_steps 15 i
+unfolding byte_steps byte_step crc_bit
+after_fifteen = entry_of (byte_steps 15) AFTER_FIFTEEN refl
+
+pub after_sixteen : (i : ℕ) → i < 256 → get_or AFTER_SIXTEEN i 0 ≡ byte_steps 16 i
+unfolding byte_steps byte_step crc_bit
+after_sixteen = entry_of (byte_steps 16) AFTER_SIXTEEN refl
+
+-- One, four or sixteen bytes' steps of four bytes are a look-up for each byte.
+
+none_left : (x : ℕ) → byte_steps 0 x ≡ x
+unfolding byte_steps
+none_left x = refl
+
+-- the low byte's steps by its table, and then those of the rest
+look_up : (table : List ℕ) (count x : ℕ) {rest : ℕ} → ((i : ℕ) → i < 256 → get_or table i 0 ≡ byte_steps (suc count) i) → byte_steps count (x / 256) ≡ rest → byte_steps (suc count) x ≡ bit_xor (get_or table (x % 256) 0) rest
+look_up table count x entry next =
+    let low = entry (x % 256) (omega arith) in
+    byte_steps-split count x ∙ ap₂ bit_xor (sym low) next
+
+-- the same in the bytes from a place on
+look_up_at : (place : ℕ) (table : List ℕ) (count x : ℕ) {rest : ℕ} → ((i : ℕ) → i < 256 → get_or table i 0 ≡ byte_steps (suc count) i) → byte_steps count (x / 2 ^ (place + 8)) ≡ rest → byte_steps (suc count) (x / 2 ^ place) ≡ bit_xor (get_or table (x / 2 ^ place % 256) 0) rest
+look_up_at place table count x entry next =
+    look_up table count (x / 2 ^ place) entry (ap (byte_steps count) (shr-shr x place 8) ∙ next)
+
+pub one_byte : (x : ℕ) → bit_xor (get_or AFTER_ONE (x % 256) 0) (x / 256) ≡ byte_steps 1 x
+one_byte x = sym (look_up AFTER_ONE 0 x after_one (none_left (x / 256)))
+
+-- no bytes are left above four
+above_four : (count x : ℕ) → x < 2 ^ 32 → byte_steps count (x / 2 ^ 32) ≡ 0
+above_four count x h =
+    let nothing : x / 2 ^ 32 ≡ 0 = omega arith in
+    ap (byte_steps count) nothing ∙ byte_steps-none count
+
+pub four_bytes : (x : ℕ) → x < 2 ^ 32 → bit_xor (bit_xor (bit_xor (get_or AFTER_FOUR (x % 256) 0) (get_or AFTER_THREE (x / 2 ^ 8 % 256) 0)) (get_or AFTER_TWO (x / 2 ^ 16 % 256) 0)) (get_or AFTER_ONE (x / 2 ^ 24 % 256) 0) ≡ byte_steps 4 x
+four_bytes x h =
+    let top = look_up_at 24 AFTER_ONE 0 x after_one (above_four 0 x h) ∙ xor_zero_r (get_or AFTER_ONE (x / 2 ^ 24 % 256) 0) in
+    let from_two = look_up_at 16 AFTER_TWO 1 x after_two top in
+    let from_three = look_up_at 8 AFTER_THREE 2 x after_three from_two in
+    simp xor_assoc (sym (look_up AFTER_FOUR 3 x after_four from_three))
+
+pub sixteen_bytes : (x : ℕ) → x < 2 ^ 32 → bit_xor (bit_xor (bit_xor (get_or AFTER_SIXTEEN (x % 256) 0) (get_or AFTER_FIFTEEN (x / 2 ^ 8 % 256) 0)) (get_or AFTER_FOURTEEN (x / 2 ^ 16 % 256) 0)) (get_or AFTER_THIRTEEN (x / 2 ^ 24 % 256) 0) ≡ byte_steps 16 x
+sixteen_bytes x h =
+    let top = look_up_at 24 AFTER_THIRTEEN 12 x after_thirteen (above_four 12 x h) ∙ xor_zero_r (get_or AFTER_THIRTEEN (x / 2 ^ 24 % 256) 0) in
+    let from_fourteen = look_up_at 16 AFTER_FOURTEEN 13 x after_fourteen top in
+    let from_fifteen = look_up_at 8 AFTER_FIFTEEN 14 x after_fifteen from_fourteen in
+    simp xor_assoc (sym (look_up AFTER_SIXTEEN 15 x after_sixteen from_fifteen))

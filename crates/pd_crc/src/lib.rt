@@ -3,9 +3,7 @@
 //! Each block of "drivers/md/persistent-data" begins with the checksum of its other bytes.
 #![tactic(auto)]
 
-mod raw;
 mod sealing;
 mod tables;
 
-pub use raw::crc32c_raw;
-pub use sealing::{any_valid, is_sealed, salted, seal};
+pub use sealing::{any_valid, crc32c_raw, is_sealed, salted, seal};

@@ -5,8 +5,8 @@ use Rattle.std.proofs.lemmas.Bool.{cases_eq}
 use Rattle.std.proofs.lemmas.Bool.Decides.{nat_tests}
 use Rattle.std.proofs.lemmas.List.FromFn.{length-range_with_len, sum_by-map-range_with_len_more}
 use Rattle.std.proofs.lemmas.List.Sums.{sum_by-cons, sum_by-append, sum_by_push, count_by-le-length}
+use Rattle.pd_grammar.specs.Need.{overflows_in}
 use Rattle.pd_count.specs.Counted.{Counted, count_of, CountsOneMore, HasCounted}
-use Rattle.pd_spells.specs.ThinNeed.{overflows_in}
 use Rattle.pd_devices.specs.Counts.{overflows_of}
 
 -- how many numbers of a row pass a test
@@ -88,7 +88,7 @@ counts_bounded b total old new adds bounded d = elim (cases_eq d b) [
   | inr apart ↦ omega (arith, adds.others d apart, bounded d)
 ]
 
-map_id : (xs : List ℕ) → map (λ r. r) xs ≡ xs
+pub map_id : (xs : List ℕ) → map (λ r. r) xs ≡ xs
 map_id [] = refl
 map_id (x ∷ xs) = ap (λ (ys : List ℕ). x ∷ ys) (map_id xs)
 

@@ -1,297 +1,318 @@
--- What was gathered, line by line.
-use Rattle.std.proofs.Common.{◌≡◌, ℕ, ◌+◌, ◌-◌, ◌≤◌, ◌<◌, ◌^◌, min, true, ltb, ◌&&◌, List, [], ◌∷◌, ◌++◌, length, length-append, map, sum_by, refl, sym, ◌∙◌, ap, subst, arith, Option, None, Some, Result, Ok, Err}
-use Rattle.std.specs.List.{range_with_len}
+-- What was gathered, line by line: where leaves and devices begin and end.
+use Rattle.std.proofs.Common.{◌≡◌, ℕ, suc, ◌+◌, ◌≤◌, ◌<◌, ◌^◌, false, List, [], ◌∷◌, ◌++◌, length, length-append, map, sum, refl, sym, ◌∙◌, ap, subst, arith, Option, None, Some, unwrap_or}
+use Rattle.std.specs.List.{AllByRecursion}
 use Rattle.std.proofs.lemmas.List.{append-nil, map-append}
 use Rattle.std.proofs.lemmas.List.Sums.{sum_by-cons}
 use Rattle.std.proofs.lemmas.List.Elements.{All-push}
-use Rattle.std.proofs.lemmas.Bool.{lt-ltb}
-use Rattle.pd_kinds.specs.Meaning.{ThinDevice}
+use Rattle.std.proofs.lemmas.Bool.{true≢false}
 use Rattle.pd_kinds.specs.Node.{Entry}
-use Rattle.pd_kinds.specs.Value.{details_code}
-use Rattle.pd_value.specs.declared.thin.Root.{Root}
+use Rattle.pd_kinds.specs.Field.{details_code}
+use Rattle.pd_grammar.specs.ThinText.{Line, Head, LeafHead, Run, shared_first_line, pool_line, leaf_line, device_line, end_line, leaf_number, unmapped, data_blocks_of, piece_end}
+use Rattle.pd_grammar.specs.ThinText as text
+use Rattle.pd_laid.specs.LaidThin.{details_items}
+use Rattle.pd_laid.specs.Shape.{ShapeDevice}
+use Rattle.pd_laid.specs.Laid.{blocks_from}
+use Rattle.pd_laid.specs.PoolText.{Told, leaves_of_ended, leaves_of_told, told_devices, told_nothing, mappings_of_runs}
+use Rattle.pd_laid.proofs.LeafRuns.{HaveTold, told_leaf}
 use Rattle.pd_value.specs.declared.thin.Details.{Details}
 use Rattle.pd_node.specs.Items.{entries_of}
-use Rattle.pd_draft.specs.Closed.{IsClosed}
-use Rattle.pd_draft.specs.Placed.{DraftState, Wrote}
-use Rattle.pd_draft.proofs.PlacedLemmas.{wrote_none, wrote_then}
+use Rattle.pd_draft.specs.Closed.{IsClosed, DraftState}
+use Rattle.pd_draft.proofs.DraftLemmas.{wrote_none}
 use Rattle.pd_count.specs.Counted.{HasCounted}
-use Rattle.pd_spells.specs.Need.{need_tree}
-use Rattle.pd_spells.specs.ThinText.{Line, Head, Run, first_line, shared_first_line, pool_line, leaf_line, device_line, use_line, map_line, end_line, data_blocks_of, leaf_number, piece_end, unmapped, mappings_of}
-use Rattle.std.specs.Prelude.{OnOk}
-use Rattle.pd_spells.specs.ThinNeed.{thin_need_so_far, need_of_devices, overflows_in}
-use Rattle.pd_devices.specs.Need.{need_of_trees}
-use Rattle.pd_devices.specs.Counts.{overflows_of}
-use Rattle.pd_devices.proofs.CountLemmas.{overflows_listed}
-use Rattle.pd_devices.proofs.NeedLemmas.{need_by_sum, need_capped}
-use Rattle.pd_laid.specs.LaidThin.{mapping_items}
-use Rattle.pd_laid.specs.Tree.{tree_blocks, tree_root}
-use Rattle.pd_laid.proofs.NeedLemmas.{length-tree_blocks}
-use Rattle.pd_laid_once.specs.Written.{device_trees, device_roots, device_details, trees_need}
-use Rattle.pd_build.specs.Leaves.{items_to_come}
-use Rattle.pd_build.specs.Tree.{TreeLeft, blocks_left, root_left, number_left}
-use Rattle.pd_devices.specs.declared.devices.Growing.{Growing}
-use Rattle.pd_devices.specs.declared.devices.Devices.{Devices}
-use Rattle.pd_devices.specs.Growth.{IsBegun, GrowsBy}
-use Rattle.pd_devices.specs.Devices.{bare_device, with_run, open_device, whole_devices, MayFollow}
-use Rattle.pd_devices.specs.Gathered.{Grown, IsOpen, open_need, mapped_in, data_in, HasGathered}
-use Rattle.pd_devices.specs.Lines.{details_line}
-use Rattle.pd_devices.proofs.GrowthLemmas.{grows_none, grows_then, grown_end, grown_root}
-use Rattle.pd_devices.proofs.RunLemmas.{length-items, items-append, length-mappings, run_data}
-use Rattle.pd_devices.proofs.TreeLemmas.{length-device_trees, one_tree_more, one_root_more, sum_few}
-
--- the open tree is that of the open device
-pub opened_some : (devices : List ThinDevice) (low left : ℕ) (o : Growing) (from to : DraftState) → IsOpen devices low left (Some o) from to
-    → (d : ThinDevice) × ((devices ≡ d ∷ []) × Grown d low left o from to)
-opened_some [] low left o from to is = absurd is
-opened_some (d ∷ []) low left o from to is = (d, (refl, is))
-opened_some (d ∷ e ∷ devices) low left o from to is = absurd is
-
-pub opened_none : (devices : List ThinDevice) (low left : ℕ) (from to : DraftState) → IsOpen devices low left None from to → (devices ≡ []) × (from ≡ to)
-opened_none [] low left from to is = (refl, is)
-opened_none (d ∷ []) low left from to is = absurd is
-opened_none (d ∷ e ∷ devices) low left from to is = absurd is
-
--- where mappings are to come, and there are no leaves, there is one
-pub open_some : (before : List Line) → leaf_number before ≡ 0 → 1 ≤ unmapped before → (d : ThinDevice) × (open_device before ≡ d ∷ [])
-open_some [] none some = absurd (omega arith)
-open_some (first_line ∷ before) none some = absurd (omega arith)
-open_some (shared_first_line ∷ before) none some = absurd (omega arith)
-open_some (pool_line p ∷ before) none some = absurd (omega arith)
-open_some (leaf_line l ∷ before) none some = absurd (omega arith)
-open_some (device_line d ∷ before) none some = (bare_device d, refl)
-open_some (use_line n ∷ before) none some = open_some before none (omega arith)
-open_some (map_line r ∷ before) none some = let rest = open_some before none (omega arith) in (with_run r rest.0, ap (map (with_run r)) rest.1)
-open_some (end_line ∷ before) none some = absurd (omega arith)
-
--- the codes of what is listed
-abbrev root_code : Root → ℕ
-root_code r = r.0
-
-abbrev details_number : Details → ℕ
-details_number d = details_code d.mapped d.transaction d.created d.snapped
-
-abbrev root_fits : ℕ × Root → Type 0
-root_fits item = ltb item.1.0 (2 ^ 64) ≡ true
-
-abbrev details_fit : ℕ × Details → Type 0
-details_fit item = (ltb item.1.mapped (2 ^ 64) && (ltb item.1.transaction (2 ^ 64) && (ltb item.1.created (2 ^ 32) && ltb item.1.snapped (2 ^ 32)))) ≡ true
-
-abbrev top : ℕ
-top = 2 ^ 64 - 1
+use Rattle.pd_texts.specs.ThinState.{IsLeafLine}
+use Rattle.pd_devices.proofs.DeviceLemmas.{details_fit, details_number, root_code}
+use Rattle.pd_devices.specs.SharedGathered.{HasGathered, IsDeviceOpen, IsLeafOpen, IsOpen, Gathered}
+use Rattle.pd_devices.specs.SharedGrowth.{Grown, HasHeld, CanEndTree, CanBeLaid, held_runs, AreHeld}
+use Rattle.pd_devices.specs.Told.{details_line, Open, nothing_open, open_leaf, open_device, bare_device, opened, whole_leaves, whole_devices, leaf_items, open_runs}
+use Rattle.pd_devices.specs.declared.shared_devices.SharedDevices.{SharedDevices}
+use Rattle.pd_devices.specs.declared.growing.Growing.{Growing}
+use Rattle.pd_devices.proofs.PieceLemmas.{held_can}
+use Rattle.pd_devices.proofs.RoomLemmas.{leaf_room, device_room}
+use Rattle.pd_laws_laid.specs.Shared.{device_roots, device_trees, leaves_and_trees}
 
 -- nothing but a pool line was read
-pub gathered_start : (p : Head) (s : Devices) (start : DraftState) → start.place ≡ 1 → IsClosed start.device → p.data_blocks ≤ 2 ^ 40
-    → s.counts.counts.size ≡ p.data_blocks → HasCounted s.counts.counts [] → s.counts.total ≡ 0 → s.trees ≡ 0
-    → s.roots.items ≡ [] → s.details.items ≡ [] → s.growing ≡ None → HasGathered (pool_line p ∷ first_line ∷ []) s start start
-unfolding device_trees device_roots
-gathered_start p s start first closed small size counted total trees roots details growing = record {
+pub gathered_start : (room : ℕ) (p : Head) (s : SharedDevices) (start : DraftState) → start.place ≡ 1 → IsClosed start.device → p.data_blocks ≤ 2 ^ 40
+    → s.counts.counts.size ≡ p.data_blocks → HasCounted s.counts.counts [] → s.counts.total ≡ 0
+    → s.uses.counts.size ≡ room → HasCounted s.uses.counts [] → s.uses.total ≡ 0
+    → s.leaves ≡ 0 → s.firsts.items ≡ [] → s.trees ≡ 0 → s.roots.items ≡ [] → s.details.items ≡ [] → HasHeld [] s.held → s.growing ≡ None
+    → HasGathered room (pool_line p ∷ shared_first_line ∷ []) s start start
+unfolding device_trees device_roots details_items leaves_and_trees blocks_from
+gathered_start room p s start first closed small size counted total uses_size uses_counted uses_total leaves firsts trees roots details held growing = record {
   version = refl;
-  leaves = refl;
   begin = first;
+  counts = record {
+    counted = counted;
+    size = size;
+    small = small;
+    total = omega (arith, total);
+    uses_counted = uses_counted;
+    uses_size = uses_size;
+    uses_total = uses_total;
+    uses_within = tt;
+  };
+  leaves = record {
+    number = leaves;
+    told = record { number = refl; runs = λ n. refl };
+    lawful = tt;
+    firsts = firsts;
+    alone = λ none. refl;
+  };
+  listed = record {
+    roots = ap (entries_of root_code) roots;
+    details = ap (entries_of details_number) details;
+    roots_fit = rw roots (λ i d within. absurd (omega arith));
+    details_fit = rw details (λ i d within. absurd (omega arith));
+    trees = trees;
+    number = ap (λ (items : List (ℕ × Details)). length items) details;
+    told = record { trees = refl; number = refl };
+    so_far = refl;
+  };
+  held = held;
   behind = start;
   written = wrote_none start closed;
-  growing = rw growing refl;
-  roots = ap (entries_of root_code) roots;
-  details = ap (entries_of details_number) details;
-  roots_fit = rw roots (λ i d within. absurd (omega arith));
-  details_fit = rw details (λ i d within. absurd (omega arith));
-  counted = counted;
-  size = size;
-  small = small;
-  total = omega (arith, total);
-  trees = trees;
-  number = ap (λ (items : List (ℕ × Details)). length items) details;
+  growing = rw growing (refl, refl);
   place = omega (arith, first);
 }
 
--- where the trees of devices end
-behind_trees : {start behind : DraftState} (devices : List ThinDevice) → start.place ≡ 1 → Wrote (device_trees 1 devices) start behind → behind.place ≡ 1 + trees_need devices
-behind_trees devices first written = omega (arith, first, written.moved, length-device_trees 1 devices)
+-- where nothing is open
+pub closed_here : (before : List Line) (o : Option Growing) (from to : DraftState) → IsOpen before nothing_open o from to → (o ≡ None) × (from ≡ to)
+closed_here before None from to is = (refl, is.0)
+closed_here before (Some o) from to is = absurd is
 
--- the last entry by its parts
-last_entry : (es : List Entry) (i j v w : ℕ) → i ≡ j → v ≡ w → es ++ record { key = i; value = v } ∷ [] ≡ es ++ record { key = j; value = w } ∷ []
-last_entry es i j v w a b = cc
+nothing_told : (told : List Told) → length told ≡ 0 → leaves_of_told false told ≡ map leaves_of_ended told
+nothing_told [] none = refl
+nothing_told (newest ∷ older) none = absurd (omega (arith, none))
 
--- where no device is open, no tree is
-closed_here : (o : Option Growing) (from to : DraftState) → IsOpen [] 0 0 o from to → from ≡ to
-closed_here None from to is = is
-closed_here (Some o) from to is = absurd is
+uses_more : (a room : ℕ) (ns : List ℕ) → AllByRecursion (λ n. (n < a) × (n < room)) ns → AllByRecursion (λ n. (n < suc a) × (n < room)) ns
+uses_more a room [] all = tt
+uses_more a room (n ∷ ns) all = ((omega (arith, all.0.0), all.0.1), uses_more a room ns all.1)
 
--- the tree of the open device was ended
-pub gathered_ended : {start mid now : DraftState} (before : List Line) (old new : Devices) (o : Growing) (root : ℕ) → HasGathered before old start mid → unmapped before ≡ 0
-    → old.growing ≡ Some o → new.growing ≡ None → new.details ≡ old.details → new.counts ≡ old.counts → new.trees ≡ old.trees
-    → new.roots.items ≡ old.roots.items ++ (o.id, record { 0 = root }) ∷ []
-    → Wrote (blocks_left 8 mid.place o.builder []) mid now → root ≡ root_left mid.place o.builder [] → root < 2 ^ 64
-    → HasGathered (end_line ∷ before) new start now
-gathered_ended {start} {mid} {now} before old new o root h none growing ended details counts trees roots wrote is fits =
-    ended_by (opened_some (open_device before) (piece_end before) (unmapped before) o h.behind mid (rw growing at h.growing))
-  where
-    ended_by : (d : ThinDevice) × ((open_device before ≡ d ∷ []) × Grown d (piece_end before) (unmapped before) o h.behind mid) → HasGathered (end_line ∷ before) new start now
-    ended_by (d, (opened, g)) =
-        let whole = whole_devices before in
-        let items = mapping_items d.mappings in
-        let done : items_to_come o.builder.leaves ≡ 0 = g.left ∙ none in
-        let tree : Wrote (tree_blocks 8 h.behind.place items) h.behind now = grown_end g.begun g.grows done wrote in
-        let here : h.behind.place ≡ 1 + trees_need whole = behind_trees whole h.begin h.written in
-        let devices : whole ++ open_device before ≡ whole ++ d ∷ [] = ap (λ (ds : List ThinDevice). whole ++ ds) opened in
-        let blocks : device_trees 1 (whole ++ open_device before) ≡ device_trees 1 whole ++ tree_blocks 8 h.behind.place items =
-        ap (device_trees 1) devices ∙ one_tree_more whole d h.behind.place here in
-        let full : length items ≡ d.mapped = omega (arith, g.grows.items, g.begun.items, done) in
-        let root_is : root ≡ tree_root 8 h.behind.place items = is ∙ grown_root g.begun g.grows done in
-        record {
-          version = h.version;
-          leaves = h.leaves;
-          begin = h.begin;
-          behind = now;
-          written = subst (λ (bs : List (List ℕ)). Wrote bs start now) (sym blocks) (wrote_then h.written tree);
-          growing = rw ended refl;
-          roots =
-              ap (entries_of root_code) roots
-              ∙ (map-append (λ (item : ℕ × Root). record { key = item.0; value = item.1.0 }) old.roots.items ((o.id, record { 0 = root }) ∷ [])
-              ∙ (ap (λ (es : List Entry). es ++ record { key = o.id; value = root } ∷ []) h.roots
-              ∙ (last_entry (device_roots 1 whole) o.id d.id root (tree_root 8 h.behind.place items) g.id root_is
-              ∙ (sym (one_root_more whole d h.behind.place here) ∙ ap (device_roots 1) (sym devices)))));
-          details = rw details (h.details ∙ ap device_details (sym (append-nil (whole ++ open_device before))));
-          roots_fit = rw roots (All-push root_fits old.roots.items (o.id, record { 0 = root }) h.roots_fit (lt-ltb root (2 ^ 64) fits));
-          details_fit = rw details h.details_fit;
-          counted = rw counts h.counted;
-          size = rw counts h.size;
-          small = h.small;
-          total = rw counts (omega (arith, h.total, none));
-          trees = rw trees h.trees;
-          number = rw details h.number;
-          place = omega (arith, h.place, ap open_need opened, tree.moved, length-tree_blocks 8 h.behind.place items, ap (need_tree 8) full);
-        }
+without_none : (before : List Line) (leaves : List (List Run)) → HaveTold before (leaves ++ []) → HaveTold before leaves
+without_none before leaves told = subst (HaveTold before) (append-nil leaves) told
 
--- a device was begun
-pub gathered_begun : {start now : DraftState} (before : List Line) (old new : Devices) (id : ℕ) (details : Details) (t : TreeLeft) → IsClosed now.device
-    → HasGathered (end_line ∷ before) old start now → IsBegun 8 details.mapped t → t.leaves.low ≡ 0
-    → new.growing ≡ Some (record { id = id; builder = t }) → new.roots ≡ old.roots → new.counts ≡ old.counts
-    → new.trees ≡ min (old.trees + need_tree 8 details.mapped) top → new.details.items ≡ old.details.items ++ (id, details) ∷ [] → details_fit (id, details)
-    → HasGathered (device_line (details_line id details) ∷ before) new start now
-unfolding mapping_items
-gathered_begun {start} {now} before old new id details t closed h begun low growing roots counts trees listed fits =
-    let d = bare_device (details_line id details) in
-    let whole = whole_devices before ++ open_device before in
-    let here : h.behind ≡ now = closed_here old.growing h.behind now h.growing in
+-- a leaf begins
+pub gathered_leaf : {room : ℕ} {start now : DraftState} (before : List Line) (old new : SharedDevices) (l : LeafHead) → HasGathered room (end_line ∷ before) old start now → IsLeafLine before l
+    → new.counts ≡ old.counts → new.uses ≡ old.uses → new.leaves ≡ old.leaves + 1 → new.firsts ≡ old.firsts → new.trees ≡ old.trees → new.roots ≡ old.roots
+    → new.details ≡ old.details → new.held ≡ old.held → new.growing ≡ old.growing → HasGathered room (leaf_line l ∷ before) new start now
+gathered_leaf {room} {start} {now} before old new l h line counts uses leaves firsts trees roots details held growing =
+    let w = whole_leaves (end_line ∷ before) in
+    let e : List Line = end_line ∷ before in
+    let c = h.counts in
+    let here = closed_here e old.growing h.behind now h.growing in
+    let none : whole_devices e ≡ [] = h.leaves.alone line.none in
+    let told_none : length (told_devices before) ≡ 0 = omega (arith, h.listed.told.number, ap (λ (ds : List ShapeDevice). length ds) none) in
     record {
       version = h.version;
-      leaves = h.leaves;
       begin = h.begin;
-      behind = now;
-      written = rw (← here) h.written;
-      growing = rw growing (record { id = refl; first = t; begun = begun; grows = grows_none 8 t now closed; low = omega (arith, low); left = begun.items });
-      roots = rw roots h.roots;
-      details =
-          ap (entries_of details_number) listed
-          ∙ (map-append (λ (item : ℕ × Details). record { key = item.0; value = details_number item.1 }) old.details.items ((id, details) ∷ [])
-          ∙ (ap (λ (es : List Entry). es ++ record { key = id; value = details_number details } ∷ []) (h.details ∙ ap device_details (append-nil whole))
-          ∙ sym (map-append (λ (d : ThinDevice). record { key = d.id; value = details_code d.mapped d.transaction d.created d.snapped }) whole (d ∷ []))));
-      roots_fit = rw roots h.roots_fit;
-      details_fit = rw listed (All-push details_fit old.details.items (id, details) h.details_fit fits);
-      counted = rw counts h.counted;
-      size = rw counts h.size;
-      small = h.small;
-      total = rw counts (omega (arith, h.total, sum_by-cons (λ (x : ℕ). x) details.mapped (mapped_in before)));
-      trees = omega (arith, trees, h.trees, sum_by-cons (need_tree 8) details.mapped (mapped_in before));
-      number = omega (arith, ap (λ (items : List (ℕ × Details)). length items) listed, length-append old.details.items ((id, details) ∷ []), h.number);
-      place = omega (arith, h.place, ap (λ (draft_state : DraftState). draft_state.place) here, sum_by-cons (need_tree 8) details.mapped (mapped_in before));
+      counts = record {
+        counted = rw counts c.counted;
+        size = rw counts c.size;
+        small = c.small;
+        total = rw counts (omega (arith, c.total, line.few));
+        uses_counted = rw uses c.uses_counted;
+        uses_size = rw uses c.uses_size;
+        uses_total = rw uses c.uses_total;
+        uses_within = uses_more (leaf_number before) room (text.uses_of before) c.uses_within;
+      };
+      leaves = record {
+        number = omega (arith, leaves, h.leaves.number);
+        told = told_leaf before l w (let t = without_none e w h.leaves.told in record { number = t.number; runs = t.runs });
+        lawful = h.leaves.lawful;
+        firsts = rw firsts h.leaves.firsts;
+        alone = λ none. h.leaves.alone none;
+      };
+      listed = record {
+        roots = rw roots h.listed.roots;
+        details = rw details h.listed.details;
+        roots_fit = rw roots h.listed.roots_fit;
+        details_fit = rw details h.listed.details_fit;
+        trees = rw trees h.listed.trees;
+        number = rw details h.listed.number;
+        told = h.listed.told;
+        so_far = nothing_told (told_devices before) told_none;
+      };
+      held = rw held h.held;
+      behind = h.behind;
+      written = h.written;
+      growing = rw (growing, here.0) (
+        here.1,
+        record {
+          none = line.none;
+          runs_are = record { have = tt; mappings = tt; ends = omega arith };
+          some = omega (arith, line.some);
+          few = omega (arith, line.few);
+        },
+      );
+      place = h.place;
     }
 
--- the details of a device stay where it takes a run
-same_details : (r : Run) (ds : List ThinDevice) (d : ThinDevice) → device_details (ds ++ d ∷ []) ≡ device_details (ds ++ with_run r d ∷ [])
-same_details r [] d = refl
-same_details r (e ∷ ds) d = ap (λ (es : List Entry). record { key = e.id; value = details_code e.mapped e.transaction e.created e.snapped } ∷ es) (same_details r ds d)
+-- a device begins
+pub gathered_begun : {room : ℕ} {start now : DraftState} (before : List Line) (old new : SharedDevices) (id : ℕ) (details : Details) (o : Growing) → HasGathered room (end_line ∷ before) old start now
+    → ((leaves : List (List Entry)) (d : ShapeDevice) → d.id ≡ id → d.pieces ≡ [] → Grown leaves d 0 o now now) → details_fit (id, details)
+    → new.counts ≡ old.counts → new.uses ≡ old.uses → new.leaves ≡ old.leaves → new.firsts ≡ old.firsts → new.trees ≡ old.trees → new.roots ≡ old.roots
+    → new.details.items ≡ old.details.items ++ (id, details) ∷ [] → new.held ≡ old.held → new.growing ≡ Some o
+    → HasGathered room (device_line (details_line id details) ∷ before) new start now
+unfolding details_items
+gathered_begun {room} {start} {now} before old new id details o h grown fits counts uses leaves firsts trees roots listed held growing =
+    let w = whole_leaves (end_line ∷ before) in
+    let e : List Line = end_line ∷ before in
+    let line : List Line = device_line (details_line id details) ∷ before in
+    let c = h.counts in
+    let d = bare_device (details_line id details) in
+    let here = closed_here e old.growing h.behind now h.growing in
+    let devices = whole_devices e in
+    let t = without_none e w h.leaves.told in
+    record {
+      version = h.version;
+      begin = h.begin;
+      counts = record {
+        counted = rw counts c.counted;
+        size = rw counts c.size;
+        small = c.small;
+        total = rw counts (omega (arith, c.total, sum_by-cons (λ (t : Told). sum t.own) told_nothing (told_devices before)));
+        uses_counted = rw uses c.uses_counted;
+        uses_size = rw uses c.uses_size;
+        uses_total = rw uses (omega (arith, c.uses_total, sum_by-cons (λ (t : Told). t.uses) told_nothing (told_devices before)));
+        uses_within = c.uses_within;
+      };
+      leaves = record {
+        number = rw leaves h.leaves.number;
+        told = subst (HaveTold line) (sym (append-nil w)) (record { number = t.number; runs = t.runs });
+        lawful = h.leaves.lawful;
+        firsts = rw firsts h.leaves.firsts;
+        alone = λ none. absurd (true≢false none);
+      };
+      listed = record {
+        roots = rw roots h.listed.roots;
+        details =
+            ap (entries_of details_number) listed
+            ∙ (map-append (λ (item : ℕ × Details). record { key = item.0; value = details_number item.1 }) old.details.items ((id, details) ∷ [])
+            ∙ (ap (λ (es : List Entry). es ++ record { key = id; value = details_number details } ∷ []) (h.listed.details ∙ ap details_items (append-nil devices))
+            ∙ sym (map-append (λ (d : ShapeDevice). record { key = d.id; value = details_code d.mapped d.transaction d.created d.snapped }) devices (d ∷ []))));
+        roots_fit = rw roots h.listed.roots_fit;
+        details_fit = rw listed (All-push details_fit old.details.items (id, details) h.listed.details_fit fits);
+        trees = rw trees h.listed.trees;
+        number = omega (arith, ap (λ (items : List (ℕ × Details)). length items) listed, length-append old.details.items ((id, details) ∷ []), h.listed.number);
+        told = record {
+          newest = told_nothing;
+          older = told_devices before;
+          both = refl;
+          over = h.listed.told;
+          last = record { rest = []; in_run = refl; own = refl; spread = refl; pieces = refl; uses = refl };
+        };
+        so_far = refl;
+      };
+      held = rw held h.held;
+      behind = h.behind;
+      written = h.written;
+      growing = rw growing (record {
+        has = refl;
+        low = 0;
+        grown = rw here.1 (grown (leaf_items w) d refl refl);
+        runs_are = record { have = tt; mappings = tt; ends = omega arith };
+      });
+      place = h.place;
+    }
 
--- a run of the open device was taken
-pub gathered_run : {start mid now : DraftState} (before : List Line) (old new : Devices) (o p : Growing) (r : Run) → HasGathered before old start mid → MayFollow before r
-    → old.growing ≡ Some o → new.growing ≡ Some p → p.id ≡ o.id → new.roots ≡ old.roots → new.details ≡ old.details → new.trees ≡ old.trees
-    → new.counts.counts.size ≡ old.counts.counts.size → new.counts.total ≡ old.counts.total + r.length
-    → HasCounted new.counts.counts (range_with_len r.data_block r.length ++ data_in before)
-    → GrowsBy 8 (mapping_items (mappings_of r)) o.builder p.builder mid now → p.builder.leaves.low ≤ r.virtual_block + r.length
-    → HasGathered (map_line r ∷ before) new start now
-gathered_run {start} {mid} {now} before old new o p r h follows growing grown same roots details trees size total counted grows low =
-    taken (opened_some (open_device before) (piece_end before) (unmapped before) o h.behind mid (rw growing at h.growing))
-  where
-    taken : (d : ThinDevice) × ((open_device before ≡ d ∷ []) × Grown d (piece_end before) (unmapped before) o h.behind mid) → HasGathered (map_line r ∷ before) new start now
-    taken (d, (opened, g)) =
-        let whole = whole_devices before in
-        let longer : map (with_run r) (open_device before) ≡ with_run r d ∷ [] = ap (map (with_run r)) opened in
-        let more : Grown (with_run r d) (r.virtual_block + r.length) (unmapped before - r.length) p h.behind now = record {
-          id = same ∙ g.id;
-          first = g.first;
-          begun = g.begun;
-          grows = subst (λ (items : List Entry). GrowsBy 8 items g.first p.builder h.behind now) (sym (items-append d.mappings (mappings_of r))) (grows_then g.grows grows);
-          low = low;
-          left = omega (arith, grows.items, g.left, length-items (mappings_of r), length-mappings r.virtual_block r.data_block r.time r.length);
-        } in
-        record {
-          version = h.version;
-          leaves = h.leaves;
-          begin = h.begin;
-          behind = h.behind;
-          written = h.written;
-          growing = rw (grown, longer) more;
-          roots = rw roots h.roots;
-          details = rw details (h.details ∙ (ap (λ (ds : List ThinDevice). device_details (whole ++ ds)) opened ∙ (same_details r whole d ∙ ap (λ (ds : List ThinDevice). device_details (whole ++ ds)) (sym longer))));
-          roots_fit = rw roots h.roots_fit;
-          details_fit = rw details h.details_fit;
-          counted = subst (λ (ns : List ℕ). HasCounted new.counts.counts (ns ++ data_in before)) (sym (run_data r.virtual_block r.data_block r.time r.length)) counted;
-          size = size ∙ h.size;
-          small = h.small;
-          total = omega (arith, h.total, total, follows.enough);
-          trees = trees ∙ h.trees;
-          number = ap (λ (items : List (ℕ × Details)). length items) (ap (λ v. v.items) details) ∙ h.number;
-          place = omega (arith, h.place, ap open_need opened, ap open_need longer);
-        }
+-- Line by line: what is open, as a case
+pub data IsWhich (before : List Line) (opens : Open) (s : SharedDevices) (from to : DraftState) : Type 0 where
+  is_nothing : opens ≡ nothing_open → s.growing ≡ None → from ≡ to → unmapped before ≡ 0 → IsWhich before opens s from to
+  is_leaf : (runs : List Run) → opens ≡ open_leaf runs → s.growing ≡ None → from ≡ to → IsLeafOpen before runs → IsWhich before opens s from to
+  is_device : (d : ShapeDevice) (runs : List Run) (o : Growing) → opens ≡ open_device d runs → s.growing ≡ Some o → IsDeviceOpen before d runs o from to → IsWhich before opens s from to
 
--- the trees of all devices are within the need
-pub trees_within : (room : ℕ) (before : List Line) → 1 + sum_by (need_tree 8) (mapped_in before) ≤ thin_need_so_far room before
-unfolding thin_need_so_far need_of_devices
-trees_within room before = omega arith
+which_of : (before : List Line) (s : SharedDevices) (opens : Open) (o : Option Growing) (from to : DraftState) → s.growing ≡ o → IsOpen before opens o from to → IsWhich before opens s from to
+which_of before s nothing_open None from to e is = is_nothing refl e is.0 is.1
+which_of before s nothing_open (Some o) from to e is = absurd is
+which_of before s (open_leaf runs) None from to e is = is_leaf runs refl e is.0 is.1
+which_of before s (open_leaf runs) (Some o) from to e is = absurd is
+which_of before s (open_device d runs) None from to e is = absurd is
+which_of before s (open_device d runs) (Some o) from to e is = is_device d runs o refl e is
 
--- so all counts stay small, also with those of a run more
-pub gathered_few : {s : Devices} {start now : DraftState} (before : List Line) (room more : ℕ) → HasGathered before s start now → thin_need_so_far room before ≤ room → room ≤ 4161600
-    → more ≤ unmapped before → s.counts.total + more < 2 ^ 32
-gathered_few before room more h need most enough = omega (arith, h.total, sum_few (mapped_in before), trees_within room before)
+pub which : {room : ℕ} {before : List Line} {s : SharedDevices} {start now : DraftState} (h : HasGathered room before s start now) → IsWhich before (opened before) s h.behind now
+which {room} {before} {s} {start} {now} h = which_of before s (opened before) s.growing h.behind now refl h.growing
 
--- and what is left of the open tree has room
-pub gathered_room : {s : Devices} {start now : DraftState} (before : List Line) (room : ℕ) (o : Growing) → HasGathered before s start now → s.growing ≡ Some o
-    → thin_need_so_far room before ≤ room → now.place + number_left o.builder ≤ room
-gathered_room {s} {start} {now} before room o h growing need =
-    within (opened_some (open_device before) (piece_end before) (unmapped before) o h.behind now (rw growing at h.growing))
-  where
-    within : (d : ThinDevice) × ((open_device before ≡ d ∷ []) × Grown d (piece_end before) (unmapped before) o h.behind now) → now.place + number_left o.builder ≤ room
-    within (d, (opened, g)) = omega (arith, g.grows.room, g.begun.room, h.place, ap open_need opened, trees_within room before, need)
+-- What is open, by what is held of it.
 
--- where mappings are to come, a tree is open
-pub gathered_some : {s : Devices} {start now : DraftState} (before : List Line) → HasGathered before s start now → s.growing ≡ None → 1 ≤ unmapped before → ⊥
-gathered_some {s} {start} {now} before h growing some =
-    let closed = opened_none (open_device before) (piece_end before) (unmapped before) h.behind now (rw growing at h.growing) in
-    let one = open_some before h.leaves some in
-    no_device one.0 (sym one.1 ∙ closed.0)
-  where
-    no_device : (d : ThinDevice) → d ∷ [] ≡ [] → ⊥
-    no_device d e = cc
+-- a device is open whose tree is grown
+pub record DeviceCase (before : List Line) (o : Growing) (from to : DraftState) : Type 0 where
+  pub device : ShapeDevice
+  pub runs : List Run
+  pub opens : opened before ≡ open_device device runs
+  pub is : IsDeviceOpen before device runs o from to
 
--- the need of what was gathered
-pub gathered_need : {s : Devices} {start now : DraftState} (before : List Line) (room : ℕ) → HasGathered before s start now
-    → min (need_of_trees s.trees (length s.details.items) s.counts.counts.size (overflows_of s.counts.counts s.counts.counts.size) room) top ≡ min (thin_need_so_far room before) top
-unfolding thin_need_so_far
-gathered_need {s} {start} {now} before room h =
-    let mapped = mapped_in before in
-    let blocks = data_blocks_of before in
-    let over : overflows_of s.counts.counts s.counts.counts.size ≡ overflows_in (data_in before) blocks =
-    overflows_listed s.counts.counts (data_in before) s.counts.counts.size h.counted ∙ ap (overflows_in (data_in before)) h.size in
-    rw (over, h.trees, h.number, h.size)
-    (need_capped (sum_by (need_tree 8) mapped) (length mapped) blocks (overflows_in (data_in before) blocks) room top
-    ∙ ap (λ (n : ℕ). min n top) (sym (need_by_sum mapped blocks (overflows_in (data_in before) blocks) room)))
+none_is_some : (o : Growing) → None ≡ Some o → ⊥
+none_is_some o e = cc
 
--- a fact about what a call did, of what it did
-pub on_ok : {T E P Q : Type 0} (r : Result T E) → OnOk r P → (P → Q) → OnOk r Q
-on_ok (Ok x) p f = f p
-on_ok (Err e) p f = tt
+pub device_case : {room : ℕ} {before : List Line} {s : SharedDevices} {start now : DraftState} (o : Growing) (h : HasGathered room before s start now) → s.growing ≡ Some o → DeviceCase before o h.behind now
+device_case {room} {before} {s} {start} {now} o h growing = elim (which h) [
+  | is_nothing opens none same full ↦ absurd (none_is_some o (sym none ∙ growing))
+  | is_leaf runs opens none same lo ↦ absurd (none_is_some o (sym none ∙ growing))
+  | is_device d runs p opens some do_ ↦
+      let one : p ≡ o = ap (λ (x : Option Growing). unwrap_or x o) (sym some ∙ growing) in
+      record { device = d; runs = runs; opens = opens; is = subst (λ (q : Growing). IsDeviceOpen before d runs q h.behind now) one do_ }
+]
 
-pub on_ok_both : {T E P Q R : Type 0} (r : Result T E) → OnOk r P → OnOk r Q → (P → Q → R) → OnOk r R
-on_ok_both (Ok x) p q f = f p q
-on_ok_both (Err e) p q f = tt
+-- a leaf is open that has mappings
+pub record LeafCase (before : List Line) (from to : DraftState) : Type 0 where
+  pub runs : List Run
+  pub opens : opened before ≡ open_leaf runs
+  pub same : from ≡ to
+  pub is : IsLeafOpen before runs
+
+pub leaf_case : {room : ℕ} {before : List Line} {s : SharedDevices} {start now : DraftState} (h : HasGathered room before s start now) → s.growing ≡ None → 1 ≤ s.held.number → LeafCase before h.behind now
+leaf_case {room} {before} {s} {start} {now} h growing some = elim (which h) [
+  | is_nothing opens none same full ↦ absurd (omega (arith, some, h.held.number, ap (λ (o : Open). length (mappings_of_runs (open_runs o))) opens))
+  | is_leaf runs opens none same lo ↦ record { runs = runs; opens = opens; same = same; is = lo }
+  | is_device d runs p opens is do_ ↦ absurd (none_is_some p (sym growing ∙ is))
+]
+
+-- what is held is what is open
+pub held_is : {room : ℕ} {before : List Line} {s : SharedDevices} {start now : DraftState} (h : HasGathered room before s start now) → HasHeld (held_runs s.held) s.held
+held_is {room} {before} {s} {start} {now} h = record { runs_are = refl; number = h.held.number ∙ ap (λ (rs : List Run). length (mappings_of_runs rs)) (sym h.held.runs_are) }
+
+pub device_held : {room : ℕ} {before : List Line} {s : SharedDevices} {start now : DraftState} {o : Growing} (h : HasGathered room before s start now) (c : DeviceCase before o h.behind now)
+    → AreHeld (data_blocks_of before) c.is.low (piece_end before) (held_runs s.held)
+device_held {room} {before} {s} {start} {now} {o} h c =
+    subst (AreHeld (data_blocks_of before) c.is.low (piece_end before)) (sym (h.held.runs_are ∙ ap open_runs c.opens)) c.is.runs_are
+
+pub leaf_held : {room : ℕ} {before : List Line} {s : SharedDevices} {start now : DraftState} (h : HasGathered room before s start now) (c : LeafCase before h.behind now)
+    → AreHeld (data_blocks_of before) 0 (piece_end before) (held_runs s.held)
+leaf_held {room} {before} {s} {start} {now} h c =
+    subst (AreHeld (data_blocks_of before) 0 (piece_end before)) (sym (h.held.runs_are ∙ ap open_runs c.opens)) c.is.runs_are
+
+-- what is left of a tree can be written
+pub can_end_tree : {s : SharedDevices} {now : DraftState} (g : Gathered s now) (o : Growing) → s.growing ≡ Some o → CanEndTree o s.held now
+can_end_tree {s} {now} g o growing =
+    let h = g.gathered in
+    let c = device_case o h growing in
+    let room = device_room c.device c.runs o h c.opens c.is g.need g.most in
+    record {
+      leaves = leaf_items (whole_leaves g.before);
+      device = c.device;
+      blocks = data_blocks_of g.before;
+      low = c.is.low;
+      end = piece_end g.before;
+      from = h.behind;
+      grown = c.is.grown;
+      small = h.counts.small;
+      runs_are = device_held h c;
+      number = held_is h;
+      few = omega (arith, room.few);
+      room = omega (arith, room.room_is, g.there);
+    }
+
+-- and a leaf
+pub record CanWriteLeaf (s : SharedDevices) (now : DraftState) : Type 0 where
+  pub can : CanBeLaid (held_runs s.held) 0
+  pub few : s.held.number ≤ 252
+  pub room : now.place < now.device.blocks
+
+pub can_write_leaf : {s : SharedDevices} {now : DraftState} (g : Gathered s now) → s.growing ≡ None → 1 ≤ s.held.number → CanWriteLeaf s now
+can_write_leaf {s} {now} g growing some =
+    let h = g.gathered in
+    let c = leaf_case h growing some in
+    record {
+      can = held_can (leaf_held h c) h.counts.small;
+      few = omega (arith, h.held.number, ap (λ (o : Open). length (mappings_of_runs (open_runs o))) c.opens, c.is.few);
+      room = omega (arith, leaf_room c.runs h c.opens c.same c.is g.need, g.there);
+    }

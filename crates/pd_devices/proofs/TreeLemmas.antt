@@ -1,57 +1,72 @@
--- The trees of devices, and how many blocks they have.
-use Rattle.std.proofs.Common.{◌≡◌, ℕ, ◌+◌, ◌*◌, ◌≤◌, List, [], ◌∷◌, ◌++◌, length, length-append, map, sum, sum_by, refl, sym, ◌∙◌, ap, arith}
-use Rattle.std.proofs.lemmas.List.{append-nil}
-use Rattle.std.proofs.lemmas.List.Sums.{sum_by-cons}
-use Rattle.pd_kinds.specs.Meaning.{ThinDevice}
-use Rattle.pd_laid.specs.LaidThin.{mapping_items}
-use Rattle.pd_laid.specs.Tree.{tree_blocks, tree_root}
-use Rattle.pd_laid.proofs.NeedLemmas.{length-tree_blocks}
-use Rattle.pd_laid_once.specs.Written.{device_trees, device_roots, trees_need}
-use Rattle.pd_laid_once.proofs.WrittenLemmas.{trees-append, roots-append}
-use Rattle.pd_spells.specs.Need.{nodes_for, nodes_of_tree, need_tree}
-use Rattle.pd_devices.proofs.RunLemmas.{length-items}
+-- The trees of devices, one behind another, and how many blocks they have.
+use Rattle.std.proofs.Common.{◌≡◌, ℕ, ◌+◌, List, [], ◌∷◌, ◌++◌, length, length-append, map, sum_by, sym, ◌∙◌, ap, ap₂, arith, append_assoc}
+use Rattle.std.proofs.lemmas.List.{append-nil, length-map, map-append}
+use Rattle.std.proofs.lemmas.List.Sums.{sum_by_push}
+use Rattle.pd_kinds.specs.Meaning.{Mapping}
+use Rattle.pd_kinds.specs.Node.{Entry, leaf_block}
+use Rattle.pd_laid.specs.LaidThin.{mapping_items, device_root}
+use Rattle.pd_laid.specs.Shape.{ShapeDevice}
+use Rattle.pd_laid.specs.Laid.{blocks_from}
+use Rattle.pd_laid.proofs.LaidLemmas.{blocks_from-append, length-blocks_from}
+use Rattle.pd_laid.specs.PoolText.{leaves_of_pieces, need_of_leaves}
+use Rattle.pd_laws_laid.specs.Shared.{device_tree, device_trees, device_roots, leaf_blocks_from, leaves_and_trees, trees_need}
 
-pub length-device_trees : (place : ℕ) (devices : List ThinDevice) → length (device_trees place devices) ≡ trees_need devices
+pub one_tree_more : (leaves : List (List Entry)) (place : ℕ) (ds : List ShapeDevice) (d : ShapeDevice)
+    → device_trees leaves place (ds ++ d ∷ []) ≡ device_trees leaves place ds ++ device_tree leaves (place + length (device_trees leaves place ds)) d
 unfolding device_trees
-length-device_trees place [] = refl
-length-device_trees place (d ∷ devices) =
-    let here = tree_blocks 8 place (mapping_items d.mappings) in
-    let next = place + need_tree 8 (length d.mappings) in
-    let items = ap (need_tree 8) (length-items d.mappings) in
-    omega (
-      arith,
-      length-append here (device_trees next devices),
-      length-tree_blocks 8 place (mapping_items d.mappings),
-      items,
-      length-device_trees next devices,
-      sum_by-cons (need_tree 8) (length d.mappings) (map (λ (d : ThinDevice). length d.mappings) devices),
-    )
+one_tree_more leaves place [] d = append-nil (device_tree leaves place d) ∙ ap (λ (p : ℕ). device_tree leaves p d) (omega arith)
+one_tree_more leaves place (e ∷ ds) d =
+    let here = device_tree leaves place e in
+    let next = place + length here in
+    ap (λ (bs : List (List ℕ)). here ++ bs) (one_tree_more leaves next ds d)
+    ∙ (sym (append_assoc here (device_trees leaves next ds) (device_tree leaves (next + length (device_trees leaves next ds)) d))
+    ∙ ap (λ (p : ℕ). (here ++ device_trees leaves next ds) ++ device_tree leaves p d) (omega (arith, length-append here (device_trees leaves next ds))))
+
+pub one_root_more : (leaves : List (List Entry)) (place : ℕ) (ds : List ShapeDevice) (d : ShapeDevice)
+    → device_roots leaves place (ds ++ d ∷ []) ≡ device_roots leaves place ds ++ record { key = d.id; value = device_root leaves (place + length (device_trees leaves place ds)) d } ∷ []
+unfolding device_trees device_roots
+one_root_more leaves place [] d = ap (λ (p : ℕ). record { key = d.id; value = device_root leaves p d } ∷ []) (omega arith)
+one_root_more leaves place (e ∷ ds) d =
+    let here = device_tree leaves place e in
+    let next = place + length here in
+    ap (λ (es : List Entry). record { key = e.id; value = device_root leaves place e } ∷ es)
+    (one_root_more leaves next ds d
+    ∙ ap (λ (p : ℕ). device_roots leaves next ds ++ record { key = d.id; value = device_root leaves p d } ∷ []) (omega (arith, length-append here (device_trees leaves next ds))))
+
+pub trees_more : (ds : List ShapeDevice) (d : ShapeDevice) → trees_need (ds ++ d ∷ []) ≡ trees_need ds + need_of_leaves (leaves_of_pieces d.pieces)
+trees_more ds d =
+    ap (sum_by need_of_leaves) (map-append (λ (e : ShapeDevice). leaves_of_pieces e.pieces) ds (d ∷ []))
+    ∙ sum_by_push need_of_leaves (map (λ (e : ShapeDevice). leaves_of_pieces e.pieces) ds) (leaves_of_pieces d.pieces)
+
+-- a leaf more, before all devices
+pub leaf_more : (leaves : List (List Mapping)) (ms : List Mapping) → leaves_and_trees (leaves ++ ms ∷ []) [] ≡ leaves_and_trees leaves [] ++ (leaf_block 8 (1 + length leaves) (mapping_items ms) ∷ [])
+unfolding leaves_and_trees device_trees blocks_from
+leaf_more leaves ms =
+    append-nil (leaf_blocks_from 1 (leaves ++ ms ∷ []))
+    ∙ (ap (blocks_from (leaf_block 8) 1) (map-append mapping_items leaves (ms ∷ []))
+    ∙ (blocks_from-append (leaf_block 8) 1 (map mapping_items leaves) (mapping_items ms ∷ [])
+    ∙ ap₂ (λ (bs : List (List ℕ)) (n : ℕ). bs ++ (leaf_block 8 (1 + n) (mapping_items ms) ∷ [])) (sym (append-nil (leaf_blocks_from 1 leaves))) (length-map leaves mapping_items)))
 
 -- a device more
-pub one_tree_more : (devices : List ThinDevice) (d : ThinDevice) (place : ℕ) → place ≡ 1 + trees_need devices
-    → device_trees 1 (devices ++ d ∷ []) ≡ device_trees 1 devices ++ tree_blocks 8 place (mapping_items d.mappings)
-unfolding device_trees
-one_tree_more devices d place here =
-    trees-append 1 devices (d ∷ [])
-    ∙ ap (λ (blocks : List (List ℕ)). device_trees 1 devices ++ blocks)
-    (append-nil (tree_blocks 8 (1 + trees_need devices) (mapping_items d.mappings)) ∙ ap (λ (p : ℕ). tree_blocks 8 p (mapping_items d.mappings)) (sym here))
+pub device_more : (leaves : List (List Mapping)) (ds : List ShapeDevice) (d : ShapeDevice) (place : ℕ) → place ≡ 1 + length (leaves_and_trees leaves ds)
+    → leaves_and_trees leaves (ds ++ d ∷ []) ≡ leaves_and_trees leaves ds ++ device_tree (map mapping_items leaves) place d
+unfolding leaves_and_trees
+device_more leaves ds d place is =
+    let items = map mapping_items leaves in
+    let front = leaf_blocks_from 1 leaves in
+    let at = 1 + length leaves in
+    let trees = device_trees items at ds in
+    let number : at + length trees ≡ place = omega (arith, is, length-append front trees, length-blocks_from (leaf_block 8) 1 items, length-map leaves mapping_items) in
+    ap (λ (bs : List (List ℕ)). front ++ bs) (one_tree_more items at ds d)
+    ∙ (sym (append_assoc front trees (device_tree items (at + length trees) d)) ∙ ap (λ (p : ℕ). (front ++ trees) ++ device_tree items p d) number)
 
-pub one_root_more : (devices : List ThinDevice) (d : ThinDevice) (place : ℕ) → place ≡ 1 + trees_need devices
-    → device_roots 1 (devices ++ d ∷ []) ≡ device_roots 1 devices ++ record { key = d.id; value = tree_root 8 place (mapping_items d.mappings) } ∷ []
-unfolding device_roots
-one_root_more devices d place here =
-    roots-append 1 devices (d ∷ [])
-    ∙ ap (λ (p : ℕ). device_roots 1 devices ++ record { key = d.id; value = tree_root 8 p (mapping_items d.mappings) } ∷ []) (sym here)
-
--- so many nodes hold so many items
-nodes_most : (n : ℕ) → n ≤ 252 * nodes_for 252 n
-nodes_most n = omega arith
-
-pub need_tree_some : (n : ℕ) → n ≤ 252 * need_tree 8 n
-unfolding nodes_of_tree
-need_tree_some n = omega (arith, nodes_most n)
-
--- so the mappings of trees are few where their nodes are
-pub sum_few : (mapped : List ℕ) → sum mapped ≤ 252 * sum_by (need_tree 8) mapped
-sum_few [] = omega arith
-sum_few (n ∷ mapped) = omega (arith, sum_by-cons (λ (x : ℕ). x) n mapped, sum_by-cons (need_tree 8) n mapped, need_tree_some n, sum_few mapped)
+pub root_more : (leaves : List (List Mapping)) (ds : List ShapeDevice) (d : ShapeDevice) (place : ℕ) → place ≡ 1 + length (leaves_and_trees leaves ds)
+    → device_roots (map mapping_items leaves) (1 + length leaves) (ds ++ d ∷ [])
+    ≡ device_roots (map mapping_items leaves) (1 + length leaves) ds ++ record { key = d.id; value = device_root (map mapping_items leaves) place d } ∷ []
+unfolding leaves_and_trees
+root_more leaves ds d place is =
+    let items = map mapping_items leaves in
+    let at = 1 + length leaves in
+    let trees = device_trees items at ds in
+    let number : at + length trees ≡ place = omega (arith, is, length-append (leaf_blocks_from 1 leaves) trees, length-blocks_from (leaf_block 8) 1 items, length-map leaves mapping_items) in
+    one_root_more items at ds d ∙ ap (λ (p : ℕ). device_roots items at ds ++ record { key = d.id; value = device_root items p d } ∷ []) number

@@ -1,25 +1,24 @@
 -- What is gathered of the lines of a pool's text, and what of it is written.
+-- The need of a pool by the sum of its devices' trees, as one has it who doesn't keep the devices.
 use Rattle.std.specs.Prelude.{◌≡◌, ℕ, ◌+◌, ◌-◌, ◌^◌, ◌≤◌, min, true, nat_lt, ◌&&◌, false, List, [], ◌∷◌, ◌++◌, length, sum, sum_by, Option, None, Some}
 use Rattle.std.specs.List.{All, flat_map}
 use Rattle.pd_kinds.specs.declared.limits.TheConstants.{MAX_META_BLOCKS}
 use Rattle.pd_kinds.specs.Meaning.{ThinDevice}
-use Rattle.pd_kinds.specs.Value.{details_code}
+use Rattle.pd_kinds.specs.Field.{details_code}
+use Rattle.pd_kinds.specs.Bitmap.{bitmaps_for}
+use Rattle.pd_grammar.specs.Need.{need_tree, mapped_of_line, data_of_line, thin_need_so_far, need_meta_map}
+use Rattle.pd_grammar.specs.ThinText.{Line, Run, data_blocks_of, is_shared, leaf_number, piece_end, unmapped}
+use Rattle.pd_laid.specs.LaidThin.{mapping_items}
 use Rattle.pd_value.specs.declared.thin.Root.{Root}
 use Rattle.pd_value.specs.declared.thin.Details.{Details}
 use Rattle.pd_node.specs.Items.{entries_of}
-use Rattle.pd_draft.specs.Placed.{DraftState, Wrote}
+use Rattle.pd_draft.specs.Closed.{DraftState, Wrote}
 use Rattle.pd_count.specs.Counted.{HasCounted}
-use Rattle.pd_spells.specs.Need.{need_tree}
-use Rattle.pd_spells.specs.ThinText.{Line, Run, data_blocks_of, is_shared, leaf_number, piece_end, unmapped}
-use Rattle.pd_spells.specs.ThinNeed.{mapped_of_line, data_of_line, thin_need_so_far}
-use Rattle.pd_laid.specs.LaidThin.{mapping_items}
-use Rattle.pd_laid_once.specs.Written.{device_trees, device_roots, device_details}
-use Rattle.pd_build.specs.Leaves.{items_to_come}
-use Rattle.pd_build.specs.Tree.{TreeLeft}
+use Rattle.pd_build.specs.Tree.{items_to_come, TreeLeft}
 use Rattle.pd_devices.specs.declared.devices.Growing.{Growing}
 use Rattle.pd_devices.specs.declared.devices.Devices.{Devices}
-use Rattle.pd_devices.specs.Growth.{IsBegun, GrowsBy}
-use Rattle.pd_devices.specs.Devices.{open_device, whole_devices, MayFollow}
+use Rattle.pd_devices.specs.Devices.{IsBegun, GrowsBy, open_device, whole_devices, MayFollow}
+use Rattle.pd_laws_laid.specs.Once.{device_trees, device_roots, device_details}
 
 -- the tree of a device is begun, and has its mappings so far: the next one's virtual block is at least this, and so
 -- many are to come
@@ -93,3 +92,9 @@ pub record CanEnd (s : Devices) (now : DraftState) : Type 0 where
 pub record CanTake (s : Devices) (r : Run) (now : DraftState) : Type 0 where
   pub so_far : Gathered s now
   pub follows : MayFollow so_far.before r
+
+-- the need of a pool whose devices' trees have so many nodes together, by the number of devices
+unfoldable pub need_of_trees : ℕ → ℕ → ℕ → ℕ → ℕ → ℕ
+need_of_trees trees number data_blocks overflows room =
+    1 + (trees + (need_tree 8 number + (need_tree 24 number
+    + (bitmaps_for data_blocks + (need_tree 16 (bitmaps_for data_blocks) + (need_tree 4 overflows + need_meta_map room))))))

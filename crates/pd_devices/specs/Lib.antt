@@ -1,6 +1,6 @@
-pub mod Need
-pub mod Counts
-pub mod Growth
 pub mod Devices
 pub mod Gathered
-pub mod Lines
+pub mod SharedGrowth
+pub mod Told
+pub mod SharedGathered
+pub mod Counts

@@ -1,6 +1,6 @@
-//! The counts of data blocks.
+//! The counts of data blocks (`thin_restore`, `thin_repair`, `thin_shrink`).
 
-ghost use Rattle.std.specs.Prelude.{◌≡◌, ℕ, ◌+◌, ◌-◌, ◌^◌, ◌<◌, ◌≤◌, List, [], ◌++◌, IfOk, OnOk};
+ghost use Rattle.std.specs.Prelude.{◌≡◌, ℕ, ◌+◌, ◌^◌, ◌<◌, ◌≤◌, List, [], ◌++◌, IfOk, OnOk};
 ghost use Rattle.std.specs.List.{range_with_len};
 ghost use Rattle.pd_count.specs.Counted.{count_of, CountsOneMore, HasCounted};
 ghost use Rattle.pd_devices.specs.Counts.{overflows_of};

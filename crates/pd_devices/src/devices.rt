@@ -1,22 +1,21 @@
-//! The devices of a pool.
+//! The devices of a pool (`thin_restore`, `thin_repair`, `thin_shrink`).
 
 ghost use Rattle.std.specs.Prelude.{◌≡◌, ℕ, ◌+◌, ◌-◌, ◌<◌, ◌≤◌, ◌^◌, List, [], ◌∷◌, ◌++◌, min, IfOk, IfErr, OnOk};
-ghost use Rattle.pd_image.specs.Device.{IsWritable};
-ghost use Rattle.pd_draft.specs.Closed.{IsClosed, StaysClosed};
-ghost use Rattle.pd_draft.specs.Placed.{DraftState};
-ghost use Rattle.pd_draft.specs.DraftState.{draft_state};
-ghost use Rattle.pd_spells.specs.ThinText.{Head, Line, first_line, pool_line, device_line, map_line, end_line, unmapped};
-ghost use Rattle.pd_spells.specs.ThinNeed.{thin_need_so_far};
-ghost use Rattle.pd_build.specs.Causes.{CountsBuildFault};
 ghost use Rattle.std.specs.List.{range_with_len};
+ghost use Rattle.pd_grammar.specs.ThinText.{Head, Line, first_line, pool_line, device_line, map_line, end_line, unmapped, mappings_from};
+ghost use Rattle.pd_grammar.specs.Need.{thin_need_so_far};
+ghost use Rattle.pd_laid.specs.LaidThin.{mapping_items};
+ghost use Rattle.pd_image.specs.Device.{IsWritable};
+ghost use Rattle.pd_draft.specs.Closed.{IsClosed, StaysClosed, DraftState};
+ghost use Rattle.pd_draft.specs.DraftState.{draft_state};
 ghost use Rattle.pd_count.specs.Counted.{HasCounted};
-ghost use Rattle.pd_devices.specs.Devices.{MayFollow};
+ghost use Rattle.pd_build.specs.Building.{CountsBuildFault};
+ghost use Rattle.pd_build.specs.Tree.{items_to_come, number_left};
+ghost use Rattle.pd_devices.specs.Devices.{MayFollow, details_line, run_of, GrowsBy};
 ghost use Rattle.pd_devices.specs.Gathered.{HasGathered, CanEnd, CanTake};
-ghost use Rattle.pd_devices.specs.Lines.{details_line, run_of};
 
 use crate::counts::BlockCounts;
 use crate::need::{add_tree, need_of};
-use crate::runs::{Run, put_run};
 use pd_build::{BuildFault, Builder};
 use pd_count::Counts;
 use pd_draft::Draft;
@@ -75,7 +74,8 @@ impl Devices {
         requires writable { IsWritable (draft_state draft.old).device }
         requires closed { IsClosed (draft_state draft.old).device }
         ensures same_reference { draft.new.dev.ghost_name ≡ draft.old.dev.ghost_name }
-        ensures gathered { (before : List Line) (start : DraftState) → HasGathered before self.old start (draft_state draft.old) → unmapped before ≡ 0
+        ensures gathered { (before : List Line) (start : DraftState)
+            → HasGathered before self.old start (draft_state draft.old) → unmapped before ≡ 0
             → OnOk result (HasGathered (device_line (details_line id details) ∷ before) self.new start (draft_state draft.new)) }
         ensures closed { StaysClosed (draft_state draft.old).device (draft_state draft.new).device }
         ensures faults { CountsBuildFault result (draft_state draft.old).device.faults (draft_state draft.new).device.faults }
@@ -94,7 +94,8 @@ impl Devices {
         requires writable { IsWritable (draft_state draft.old).device }
         requires closed { IsClosed (draft_state draft.old).device }
         ensures same_reference { draft.new.dev.ghost_name ≡ draft.old.dev.ghost_name }
-        ensures gathered { (before : List Line) (start : DraftState) → HasGathered before self.old start (draft_state draft.old) → MayFollow before (run_of run)
+        ensures gathered { (before : List Line) (start : DraftState)
+            → HasGathered before self.old start (draft_state draft.old) → MayFollow before (run_of run)
             → OnOk result (HasGathered (map_line (run_of run) ∷ before) self.new start (draft_state draft.new)) }
         ensures closed { StaysClosed (draft_state draft.old).device (draft_state draft.new).device }
         ensures faults { CountsBuildFault result (draft_state draft.old).device.faults (draft_state draft.new).device.faults }
@@ -112,7 +113,8 @@ impl Devices {
         requires writable { IsWritable (draft_state draft.old).device }
         requires closed { IsClosed (draft_state draft.old).device }
         ensures same_reference { draft.new.dev.ghost_name ≡ draft.old.dev.ghost_name }
-        ensures gathered { (before : List Line) (start : DraftState) → HasGathered before self.old start (draft_state draft.old) → unmapped before ≡ 0
+        ensures gathered { (before : List Line) (start : DraftState)
+            → HasGathered before self.old start (draft_state draft.old) → unmapped before ≡ 0
             → OnOk result (HasGathered (end_line ∷ before) self.new start (draft_state draft.new)) }
         ensures closed { StaysClosed (draft_state draft.old).device (draft_state draft.new).device }
         ensures faults { CountsBuildFault result (draft_state draft.old).device.faults (draft_state draft.new).device.faults }
@@ -128,7 +130,8 @@ impl Devices {
 
     /// Begins the tree of a device.
     fn begin(&mut self, id: u64, details: Details) -> Result<(), BuildFault>
-        ensures begun { (before : List Line) (start now : DraftState) → IsClosed now.device → HasGathered (end_line ∷ before) self.old start now
+        ensures begun { (before : List Line) (start now : DraftState)
+            → IsClosed now.device → HasGathered (end_line ∷ before) self.old start now
             → OnOk result (HasGathered (device_line (details_line id details) ∷ before) self.new start now) }
         ensures fault { IfErr result (λ fault. fault ≡ BuildFault.Memory) }
     {
@@ -142,7 +145,8 @@ impl Devices {
     /// How many blocks the pool needs so far, where there are so many for metadata. It stays at 2^64 - 1 where it would
     /// pass that.
     pub fn need(&self, room: u64) -> u64
-        ensures { (before : List Line) (start now : DraftState) → HasGathered before self.now start now → result ≡ min (thin_need_so_far room before) (2 ^ 64 - 1) }
+        ensures { (before : List Line) (start now : DraftState) → HasGathered before self.now start now
+            → result ≡ min (thin_need_so_far room before) (2 ^ 64 - 1) }
     {
         let blocks = self.counts.counts().size();
         let devices = self.details.len() as u64;
@@ -190,4 +194,50 @@ fn append<T: Copy>(items: &mut Vec<(u64, T)>, key: u64, value: T) -> Result<(), 
     ensures fault { IfErr result (λ fault. fault ≡ BuildFault.Memory) }
 {
     Ok(items.push((key, value))?)
+}
+
+// The mappings of a run, in a device's tree (`thin_restore`, `thin_repair`, `thin_shrink`).
+
+/// A run of mappings: virtual blocks in a row, to data blocks in a row.
+#[derive(Clone, Copy, Debug, PartialEq, Eq)]
+pub struct Run {
+    /// The first virtual block.
+    pub virtual_block: u64,
+    /// The data block that it is mapped to.
+    pub data_block: u64,
+    /// How many blocks are mapped.
+    pub length: u64,
+    /// The pool's time when they were.
+    pub time: u32,
+}
+
+/// Puts the mappings of a run into the tree of its device. Each leaf is written as soon as its items were put.
+pub(crate) fn put_run<D: Device>(
+    builder: &mut Builder<BlockTime>,
+    draft: &mut Draft<'_, D>,
+    run: Run,
+) -> Result<(), BuildFault>
+    requires above { builder.old.leaves.low ≤ run.virtual_block }
+    requires ends { run.virtual_block + run.length ≤ 2 ^ 64 }
+    requires within { run.data_block + run.length ≤ 2 ^ 40 }
+    requires time { run.time < 2 ^ 24 }
+    requires more { run.length ≤ items_to_come builder.old.leaves }
+    requires writable { IsWritable (draft_state draft.old).device }
+    requires room { draft.old.next + number_left builder.old ≤ (draft_state draft.old).device.blocks }
+    requires closed { IsClosed (draft_state draft.old).device }
+    ensures same_reference { draft.new.dev.ghost_name ≡ draft.old.dev.ghost_name }
+    ensures grows { OnOk result (GrowsBy 8 (mapping_items (mappings_from run.virtual_block run.data_block run.time run.length))
+        builder.old builder.new (draft_state draft.old) (draft_state draft.new)) }
+    ensures raised { OnOk result (builder.new.leaves.low ≤ run.virtual_block + run.length) }
+    ensures closed { StaysClosed (draft_state draft.old).device (draft_state draft.new).device }
+    ensures faults { CountsBuildFault result (draft_state draft.old).device.faults (draft_state draft.new).device.faults }
+{
+    for i in 0..run.length {
+        let mapping = BlockTime {
+            block: run.data_block + i,
+            time: run.time,
+        };
+        builder.put(draft, run.virtual_block + i, mapping)?;
+    }
+    Ok(())
 }

@@ -1,10 +1,8 @@
-//! How many blocks a pool needs.
+//! How many blocks a pool needs (`thin_restore`, `thin_repair`, `thin_shrink`).
 
 ghost use Rattle.std.specs.Prelude.{◌≡◌, ◌+◌, ◌-◌, ◌^◌, min};
-ghost use Rattle.pd_kinds.specs.Bitmap.{bitmaps_for};
-ghost use Rattle.pd_spells.specs.Need.{need_tree};
-ghost use Rattle.pd_spells.specs.ThinNeed.{need_of_devices};
-ghost use Rattle.pd_devices.specs.Need.{need_of_trees};
+ghost use Rattle.pd_grammar.specs.Need.{need_tree, need_of_devices};
+ghost use Rattle.pd_devices.specs.Gathered.{need_of_trees};
 
 use pd_build::need_tree;
 use pd_kinds::bitmaps_for;

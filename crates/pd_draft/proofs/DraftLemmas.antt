@@ -1,26 +1,22 @@
 -- The three outcomes of a crash, from what is left at each moment.
-use Rattle.std.proofs.Common.{◌≡◌, inl, inr, ⊎_elim, ℕ, zero, suc, ◌<◌, ◌≤◌, Bool, true, false, List, [], ◌∷◌, length, take, get_or, set, refl, sym, ◌∙◌, ap, subst, arith, Option, Some, Result, Ok, Err, cond}
+use Rattle.std.proofs.Common.{◌≡◌, inl, inr, ⊎_elim, ℕ, zero, suc, ◌<◌, ◌≤◌, Bool, true, false, List, [], ◌∷◌, length, take, get_or, set, refl, sym, ◌∙◌, ap, subst, arith, Option, Some, Result, Ok, Err, cond, ◌+◌, ◌++◌, drop, ap₂, add-one, None, length-append}
 use Rattle.std.specs.Prelude.{nat_eq, IfSome, ◌||◌, OnOk}
 use Rattle.std.specs.List.{AllByRecursion, list_any, slice_get}
 use Rattle.std.specs.Option.{is_some, unwrap_or}
 use Rattle.std.proofs.lemmas.Bool.{cases_lt, eqb-true, eqb-false}
-use Rattle.std.proofs.lemmas.List.{ext_get_or, get_or-set_same, length-set}
+use Rattle.std.proofs.lemmas.List.{ext_get_or, get_or-set_same, length-set, append_assoc, drop-set-lt, take-append-drop}
 use Rattle.std.proofs.lemmas.Option.{slice_get-get_or, get_or_from_slice_get, unwrap_or-slice_get, slice_get_past, same_Some}
+use Rattle.std.proofs.Math.Seq.{take-suc-set}
 use Rattle.pd_kinds.specs.Field.{zeros}
-use Rattle.pd_image.proofs.BlockLemmas.{slice_get-set_other}
 use Rattle.pd_kinds.specs.Graph.{block_at}
 use Rattle.pd_kinds.specs.Super.{is_valid_super}
-use Rattle.pd_kinds.specs.Moments.{Moment, History, present_moment, IsLeft, after_write, after_sync}
-use Rattle.pd_kinds.specs.Objects.{DeviceState}
+use Rattle.pd_kinds.specs.Objects.{Moment, History, present_moment, IsLeft, after_write, after_sync, DeviceState}
 use Rattle.pd_kinds.specs.Crash.{LeavesNow, LeavesOnly, HoldsSynced, HasNoSuper, IsAmong, IsOldOrNone, IsNoneOrNew}
-use Rattle.pd_kinds.proofs.CrashLemmas.{left_synced, left_now, left_is, left_held, zeros_no_super, untold, and_then}
-use Rattle.pd_image.specs.Device.{MayChange, MayWrite}
+use Rattle.pd_kinds.proofs.CrashLemmas.{left_synced, left_now, left_is, left_held, zeros_no_super, untold, and_then, Image, stays}
+use Rattle.pd_image.proofs.BlockLemmas.{slice_get-set_other}
+use Rattle.pd_image.specs.Device.{MayChange, MayWrite, KeepsPlace}
 use Rattle.pd_image.proofs.CrashLemmas.{told_or_not, is_none_too, at_some, writes, syncs}
-use Rattle.pd_draft.specs.Closed.{HasZeros, IsClosed}
-use Rattle.pd_draft.specs.Replaced.{IsOldOrNewFirst, IsReplaced}
-
-abbrev Image : Type 0
-Image = List (List ℕ)
+use Rattle.pd_draft.specs.Closed.{HasZeros, IsClosed, IsOldOrNewFirst, IsReplaced, StaysClosed, placed, DraftState, Wrote}
 
 -- zeros in block 0 are no superblock
 pub zeros_none : (image firsts : Image) → HasZeros image firsts → HasNoSuper image
@@ -235,3 +231,95 @@ pub replaced_last : (image : Image) (bytes : List ℕ) {old mid new : DeviceStat
     → IfSome mid.held (λ i. new.history ≡ cond ok (after_sync i mid.history) mid.history) → new.held ≡ mid.held → LeavesOnly (IsReplaced image (set image 0 bytes)) old new
 replaced_last image bytes {old} {mid} {new} ok so_far held crash same =
     and_then so_far (syncs ok crash same so_far.now (λ i is. replaced_whole image bytes i (same_Some i (set image 0 bytes) (sym is ∙ held))))
+
+-- The calls of a draft, one after another.
+
+pub keeps_place : {a b c : DeviceState} → KeepsPlace a b → KeepsPlace b c → KeepsPlace a c
+keeps_place first second = record {
+  access = second.access ∙ first.access;
+  path = second.path ∙ first.path;
+  blocks = second.blocks ∙ first.blocks;
+}
+
+-- before the first call
+pub closed_start : (device : DeviceState) → IsClosed device → StaysClosed device device
+closed_start device closed = record { crash = stays refl refl closed; told = refl; kept = record { access = refl; path = refl; blocks = refl } }
+
+-- one call more
+pub closed_then : {a b c : DeviceState} → StaysClosed a b → StaysClosed b c → StaysClosed a c
+closed_then first second = record {
+  crash = and_then first.crash second.crash;
+  told = second.told ∙ first.told;
+  kept = keeps_place first.kept second.kept;
+}
+
+-- Runs of puts.
+
+pub placed-append : (image : Image) (place : ℕ) (xs ys : Image) → placed image place (xs ++ ys) ≡ placed (placed image place xs) (place + length xs) ys
+unfolding placed
+placed-append image place [] ys = ap (λ (p : ℕ). placed image p ys) (omega arith)
+placed-append image place (x ∷ xs) ys =
+    placed-append (set image place x) (place + 1) xs ys
+    ∙ ap (λ (p : ℕ). placed (placed (set image place x) (place + 1) xs) p ys) (omega arith)
+
+-- they stand between what was before them and behind them
+pub placed_between : (image : Image) (place : ℕ) (blocks : Image) → place + length blocks ≤ length image
+    → placed image place blocks ≡ take place image ++ (blocks ++ drop (place + length blocks) image)
+unfolding placed
+placed_between image place [] room = let none : place + 0 ≡ place = omega arith in rw none (sym (take-append-drop place image))
+placed_between image place (x ∷ xs) room =
+    let within : place < length image = omega arith in
+    let same = length-set image place x in
+    let next : place + 1 + length xs ≡ place + suc (length xs) = omega arith in
+    placed_between (set image place x) (place + 1) xs (rw same (omega arith))
+    ∙ (ap₂ (λ (front back : Image). front ++ (xs ++ back)) (rw add-one (take-suc-set image place x within))
+    (drop-set-lt (place + 1 + length xs) image place x (omega arith) ∙ ap (λ (n : ℕ). drop n image) next)
+    ∙ append_assoc (take place image) (x ∷ []) (xs ++ drop (place + suc (length xs)) image))
+
+both_placed : (was mid new : Option Image) (place : ℕ) (next : ℕ) (xs ys : Image) → next ≡ place + length xs
+    → IfSome was (λ image. mid ≡ Some (placed image place xs)) → IfSome mid (λ image. new ≡ Some (placed image next ys))
+    → IfSome was (λ image. new ≡ Some (placed image place (xs ++ ys)))
+both_placed None mid new place next xs ys at first second = tt
+both_placed (Some image) mid new place next xs ys at first second =
+    at_some mid (λ (i : Image). new ≡ Some (placed i next ys)) (placed image place xs) first second
+    ∙ ap (λ (i : Image). Some i) (ap (λ (p : ℕ). placed (placed image place xs) p ys) at ∙ sym (placed-append image place xs ys))
+
+same_placed : (was : Option Image) (place : ℕ) → IfSome was (λ image. was ≡ Some (placed image place []))
+unfolding placed
+same_placed None place = tt
+same_placed (Some image) place = refl
+
+-- before the first put
+pub wrote_none : (draft_state : DraftState) → IsClosed draft_state.device → Wrote [] draft_state draft_state
+wrote_none draft_state closed = record {
+  moved = omega arith;
+  content = same_placed draft_state.device.held draft_state.place;
+  stays = closed_start draft_state.device closed;
+  faults = refl;
+}
+
+-- one run after another
+pub wrote_then : {xs ys : List (List ℕ)} {a b c : DraftState} → Wrote xs a b → Wrote ys b c → Wrote (xs ++ ys) a c
+wrote_then {xs} {ys} {a} {b} {c} first second = record {
+  moved = let sum = length-append xs ys in omega (arith, first.moved, second.moved);
+  content = both_placed a.device.held b.device.held c.device.held a.place b.place xs ys first.moved first.content second.content;
+  stays = closed_then first.stays second.stays;
+  faults = second.faults ∙ first.faults;
+}
+
+one_placed : (was new : Option Image) (place : ℕ) (block : List ℕ) → IfSome was (λ image. new ≡ Some (set image place block))
+    → IfSome was (λ image. new ≡ Some (placed image place (block ∷ [])))
+unfolding placed
+one_placed None new place block put = tt
+one_placed (Some image) new place block put = put
+
+-- one put
+pub wrote_one : (block : List ℕ) (old new : DraftState) → new.place ≡ old.place + 1
+    → IfSome old.device.held (λ image. new.device.held ≡ Some (set image old.place block))
+    → StaysClosed old.device new.device → new.device.faults ≡ old.device.faults → Wrote (block ∷ []) old new
+wrote_one block old new moved content stays faults = record {
+  moved = moved;
+  content = one_placed old.device.held new.device.held old.place block content;
+  stays = stays;
+  faults = faults;
+}

@@ -1,7 +1,7 @@
 -- Where a draft stands.
 use Rattle.pd_image.specs.declared.device.Device.{Ghosts}
 use Rattle.pd_draft.specs.declared.draft.Draft.{Draft}
-use Rattle.pd_draft.specs.Placed.{DraftState}
+use Rattle.pd_draft.specs.Closed.{DraftState}
 
 -- its device, and the place of the next block
 abbrev pub draft_state : {D : Type 0} {device : Ghosts D} → Draft D device → DraftState

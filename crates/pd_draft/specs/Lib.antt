@@ -1,4 +1,2 @@
 pub mod Closed
-pub mod Placed
-pub mod Replaced
 pub mod DraftState

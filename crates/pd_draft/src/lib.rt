@@ -1,17 +1,17 @@
 //! An output whose block 0 stays closed until everything else is on the device.
 //!
-//! A restore, a repair or a rewriting zeroes block 0 first, and writes its superblock last, so a crash at any
-//! moment leaves the old image, one with no valid superblock, or the whole new one.
+//! A restore, a repair or a rewriting zeroes block 0 first, and writes its superblock last. So a crash at any moment leaves the
+//! old image, one with no valid superblock, or the whole new one.
+//!
+//! The flag "needs check" of a superblock is cleared in one write. The kernel sets it where the metadata may be damaged, and then
+//! takes no change of it until it was checked: `THIN_METADATA_NEEDS_CHECK_FLAG` of "drivers/md/dm-thin-metadata.c",
+//! `NEEDS_CHECK` of "drivers/md/dm-cache-metadata.c".
 #![tactic(auto)]
 
+mod clearing;
 mod draft;
-mod flag;
-mod laws;
 mod rewrite;
-mod steps;
 
-pub use draft::Draft;
-pub use flag::rewrite_super;
-pub use laws::others_stay;
-pub use rewrite::Rewrite;
-pub use steps::clear;
+pub use clearing::{clear_needs_check, is_set, without_flag};
+pub use draft::{Draft, clear, others_stay};
+pub use rewrite::{Rewrite, rewrite_super};

@@ -1,11 +1,11 @@
 -- The lines of what is given of a cache without faults are those of its meaning.
 use Rattle.std.proofs.Common.{◌≡◌, ℕ, zero, suc, ◌+◌, ◌-◌, ◌^◌, ◌<◌, ◌≤◌, min, Bool, true, false, not, ◌&&◌, cond, nat_eq, get_or, List, [], ◌∷◌, ◌++◌, length, map, filter, Option, IfSome, refl, sym, ap, ◌∙◌, arith}
-use Rattle.std.specs.List.{AllByRecursion, list_any, range_with_len}
-use Rattle.std.proofs.lemmas.Bool.{eq-eqb, true≢false, or_parts, not-false, eqb-true}
+use Rattle.std.specs.List.{AllByRecursion, range_with_len}
+use Rattle.std.proofs.lemmas.Bool.{or_parts, not-false, eqb-true}
+use Rattle.std.proofs.lemmas.List.Concat.{flat_map-append}
 use Rattle.pd_kinds.specs.declared.kind.Kind.TheVariants.{Cache}
 use Rattle.pd_kinds.specs.declared.kind.Stage.TheVariants.{Order, Walk, Whole}
 use Rattle.pd_kinds.specs.declared.rule.Rule.{Rule}
-use Rattle.pd_kinds.specs.declared.rule.Rule.TheVariants as r
 use Rattle.pd_kinds.specs.Rule.{same_rule}
 use Rattle.pd_kinds.specs.CacheFormat.{CacheFields, cache_fields, cache_graph}
 use Rattle.pd_kinds.specs.Image.{HasBytes}
@@ -13,17 +13,20 @@ use Rattle.pd_kinds.specs.Graph.{block_at}
 use Rattle.pd_kinds.specs.Meaning.{CacheEntry, cache_dirty_bits, cache_entry, cache_hints, cache_meaning}
 use Rattle.pd_kinds.specs.Stages.{HasCleanSuper, cache_checked, faults}
 use Rattle.pd_kinds.specs.Whole.{WholeTest, array_whole, array_words, bitmap_tests, cache_arrays, cache_whole, is_array_index_bad, is_valid_word, mapping_array, whole_bad}
-use Rattle.pd_laws.proofs.CleanLemmas.{clean_super_where_none, whole_where_none}
-use Rattle.pd_grammar.specs.Texts.{text_of_lines}
-use Rattle.pd_spells.specs.CacheText.{Line, cache, cache_line, end_line, first_line, row_of, text_of_cache}
-use Rattle.pd_tree.specs.Roots.{HasCacheRoots}
-use Rattle.pd_cache_meaning.specs.declared.row.CacheRow.{CacheRow}
-use Rattle.pd_cache_meaning.specs.Given.{GivesCache, entry_of}
-use Rattle.pd_cache_meaning.specs.Rows.{rows_below}
-use Rattle.pd_query.proofs.PutsLemmas.{two_told}
+use Rattle.pd_kinds.proofs.KindsListLemmas.{none_last}
+use Rattle.pd_kinds.proofs.ResultLemmas.{if_both}
+use Rattle.pd_kinds.proofs.CleanLemmas.{clean_super_where_none, whole_where_none}
+use Rattle.pd_kinds.specs.declared.rule.Rule.TheVariants as r
+use Rattle.pd_grammar.specs.Texts.{text_of_lines, written}
+use Rattle.pd_grammar.specs.CacheText.{Line, cache, cache_line, end_line, first_line, row_of, text_of_cache}
+use Rattle.pd_tree.specs.Search.{HasCacheRoots}
+use Rattle.pd_meaning_cache.specs.declared.cache_rows.CacheRow.{CacheRow}
+use Rattle.pd_meaning_cache.specs.Rows.{GivesCache, entry_of, rows_below}
+use Rattle.pd_meaning_cache.proofs.SoundCache.{not_failed}
+use Rattle.pd_texts.specs.ThinLine.{end_text, text_of_line}
 use Rattle.pd_dumps.specs.declared.cache.CacheDump.{CacheDump}
 use Rattle.pd_dumps.specs.CacheDump.{text_left}
-use Rattle.pd_dumps.specs.CacheLines.{cache_dump_text, given_line, super_head}
+use Rattle.pd_dumps.specs.CacheLines.{cache_dump_text, given_line, super_head, rest_text, rows_text}
 
 -- the line of an entry whose block may not fit
 abbrev capped : CacheEntry → Line
@@ -63,16 +66,6 @@ some_if_clean (block ∷ blocks) clean = let more : 0 ≤ length blocks = omega 
 pub has_some : (image : List (List ℕ)) → faults Cache Whole image ≡ [] → 1 ≤ length image
 unfolding faults
 has_some image none = some_if_clean image (clean_super_where_none (cache_checked image) image (Walk ∷ Order ∷ Whole ∷ []) none)
-
--- none of the last ones
-none_last : {X : Type 0} → (p : X → Bool) (xs ys : List X) → list_any p (xs ++ ys) ≡ false → list_any p ys ≡ false
-none_last p [] ys none = none
-none_last p (x ∷ xs) ys none = none_last p xs ys (or_parts (p x) (list_any p (xs ++ ys)) none).1
-
--- a test that doesn't fail at its block
-not_failed : (fails : Bool) (b : ℕ) (broken : Rule) → (fails && (nat_eq b b && same_rule broken broken)) ≡ false → same_rule broken broken ≡ true → fails ≡ false
-not_failed true b broken none same = absurd (true≢false (sym (rw (eq-eqb b b refl, same) refl) ∙ none))
-not_failed false b broken none same = refl
 
 module _ (image : List (List ℕ)) (none : faults Cache Whole image ≡ []) (roots : HasCacheRoots (cache_graph (block_at image 0)) image (cache_fields (block_at image 0))) where
   abbrev fields : CacheFields
@@ -120,5 +113,15 @@ pub text_means : (held : Option (List (List ℕ))) (s : CacheFields) (dump : Cac
     → cache_dump_text image (cache_fields (block_at image 0)) ≡ text_of_cache (cache_meaning image))
     → IfSome held (λ image. faults Cache Whole image ≡ [] → text_left image dump ≡ text_of_cache (cache_meaning image))
 text_means held s dump bytes read text law =
-    two_told {Q = λ image. (1 ≤ length image → s ≡ cache_fields (block_at image 0)) × (text_left image dump ≡ cache_dump_text image s)} held (λ image bytes is none. is.1 ∙ (ap (λ (fields : CacheFields). cache_dump_text image fields) (is.0 (has_some image none)) ∙ law image bytes none)) bytes
-    (two_told held (λ image read text. (read, text)) read text)
+    if_both {Q = λ image. (1 ≤ length image → s ≡ cache_fields (block_at image 0)) × (text_left image dump ≡ cache_dump_text image s)} held (λ image bytes is none. is.1 ∙ (ap (λ (fields : CacheFields). cache_dump_text image fields) (is.0 (has_some image none)) ∙ law image bytes none)) bytes
+    (if_both held (λ image read text. (read, text)) read text)
+
+-- The text of a cache's rows, one after another.
+
+-- a row before others
+pub row_first : (row : CacheRow) (left later : List CacheRow) → left ≡ row ∷ later → rows_text left ≡ text_of_line cache (given_line row) ++ rows_text later
+row_first row left later is = rw is refl
+
+-- the lines of the rows, and the last one
+pub last_line : (rows : List CacheRow) → rest_text rows ≡ rows_text rows ++ end_text
+last_line rows = flat_map-append (λ (line : Line). written cache line ++ (10 ∷ [])) (map given_line rows) (end_line ∷ [])

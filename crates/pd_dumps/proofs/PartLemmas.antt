@@ -3,13 +3,14 @@ use Rattle.std.proofs.Common.{◌≡◌, ℕ, ◌+◌, ◌-◌, ◌^◌, ◌<◌
 use Rattle.std.specs.Result.{IsErr}
 use Rattle.std.proofs.lemmas.List.{append-nil, drop-drop, length-drop, map-append, take-append-drop}
 use Rattle.std.proofs.Math.Seq.{take-length}
+use Rattle.pd_kinds.proofs.ResultLemmas.{if_any}
 use Rattle.pd_lines.specs.Printing.{Begun, Printing, Prints}
 use Rattle.pd_lines.proofs.Printing.{begun_after, printed_both, printed_none}
-use Rattle.pd_query.specs.Puts.{PrintsSome}
-use Rattle.pd_query.proofs.PutsLemmas.{PrintsSoFar, each_told, one_told, prints_known, so_far_all, so_far_lost, so_far_more}
-use Rattle.pd_era_meaning.specs.declared.parts.Eras.{Eras}
-use Rattle.pd_era_meaning.specs.Parts.{CountsPart, CountsSome, TakesPart, eras_left}
-use Rattle.pd_dumps.specs.Cut.{PrintsFront, PrintsUpTo}
+use Rattle.pd_meaning_era.specs.declared.eras.Eras.{Eras}
+use Rattle.pd_meaning_era.specs.Parts.{CountsPart, CountsSome, TakesPart, eras_left}
+use Rattle.pd_query.specs.Query.{PrintsSome}
+use Rattle.pd_query.proofs.QueryLemmas.{PrintsSoFar, one_told, prints_known, so_far_all, so_far_lost, so_far_more}
+use Rattle.pd_dumps.specs.EraLines.{PrintsFront, PrintsUpTo}
 
 -- the eras from a place on, as a slice has them
 rest_from : (eras : List ℕ) (at : ℕ) → take (length eras - at) (drop at eras) ≡ drop at eras
@@ -94,6 +95,6 @@ module _ (held : Option (List (List ℕ))) where
       → PrintsSome held whole result old new
   parts_end {E} (Ok done) after so_far none prints =
       so_far_all held done {rest = λ image. []}
-      (so_far_more held {E = E} so_far (one_told held (λ image is. ap after is ∙ sym (append-nil (after []))) none) (prints_known held prints)) (each_told held (λ image. refl))
+      (so_far_more held {E = E} so_far (one_told held (λ image is. ap after is ∙ sym (append-nil (after []))) none) (prints_known held prints)) (if_any held (λ image. refl))
   parts_end (Err fault) after so_far none prints =
       so_far_lost held (λ image. []) so_far (one_told held (λ image is. ap after is ∙ sym (append-nil (after []))) none) (prints_known held prints)

@@ -1,7 +1,7 @@
 -- A dump that wasn't put yet.
 use Rattle.std.specs.Prelude.{ℕ, List, [], Option, Some, None}
 use Rattle.pd_kinds.specs.CacheFormat.{CacheFields}
-use Rattle.pd_cache_meaning.specs.declared.cache_rows.CacheRows.{CacheRows}
+use Rattle.pd_meaning_cache.specs.declared.cache_rows.CacheRows.{CacheRows}
 use Rattle.pd_dumps.specs.declared.cache.CacheDump.{CacheDump}
 use Rattle.pd_dumps.specs.CacheLines.{rows_dump_text}
 

@@ -3,11 +3,11 @@ use Rattle.std.specs.Prelude.{ℕ, ◌-◌, ◌%◌, ◌^◌, min, ◌==◌, Lis
 use Rattle.pd_kinds.specs.CacheFormat.{CacheFields}
 use Rattle.pd_kinds.specs.Meaning.{CacheEntry}
 use Rattle.pd_grammar.specs.Texts.{text_of_lines}
-use Rattle.pd_spells.specs.CacheText.{Head, Line, cache, cache_line, end_line, first_line, flag_number, row_of}
-use Rattle.pd_cache_meaning.specs.declared.row.CacheRow.{CacheRow}
-use Rattle.pd_cache_meaning.specs.declared.cache_rows.CacheRows.{CacheRows}
-use Rattle.pd_cache_meaning.specs.Rows.{rows_below}
-use Rattle.pd_cache_meaning.specs.RowsAhead.{rows_ahead}
+use Rattle.pd_grammar.specs.CacheText.{Head, Line, cache, cache_line, end_line, first_line, flag_number, row_of}
+use Rattle.pd_meaning_cache.specs.declared.cache_rows.CacheRow.{CacheRow}
+use Rattle.pd_meaning_cache.specs.declared.cache_rows.CacheRows.{CacheRows}
+use Rattle.pd_meaning_cache.specs.Rows.{rows_below}
+use Rattle.pd_meaning_cache.specs.Sides.{rows_ahead}
 
 -- a row as the entry that is put: its block is at most the greatest number of its field
 abbrev pub given_entry : CacheRow → CacheEntry

@@ -1,6 +1,6 @@
 -- A dump of an era target that wasn't put yet.
 use Rattle.std.specs.Prelude.{ℕ, List}
-use Rattle.pd_era_meaning.specs.Parts.{eras_left}
+use Rattle.pd_meaning_era.specs.Parts.{eras_left}
 use Rattle.pd_dumps.specs.declared.era.EraDump.{EraDump}
 use Rattle.pd_dumps.specs.EraLines.{era_dump_text}
 

@@ -1,7 +1,5 @@
-pub mod CacheLines
-pub mod CacheDump
 pub mod EraLines
+pub mod CacheDump
+pub mod CacheLines
 pub mod EraDump
 pub mod SinceLines
-pub mod Cut
-pub mod Runs

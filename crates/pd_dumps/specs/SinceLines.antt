@@ -1,7 +1,7 @@
 -- The lines of what was written since an era.
 use Rattle.std.specs.Prelude.{◌≡◌, ℕ, zero, suc, if◌then◌else◌, List, [], ◌∷◌, ◌++◌, filter, length, Option, Result, codes, decimal}
 use Rattle.std.specs.List.{flat_map, range_with_len}
-use Rattle.pd_kinds.specs.declared.era_super.EraSuper.{EraSuper}
+use Rattle.pd_kinds.specs.declared.superblocks.EraSuper.{EraSuper}
 use Rattle.pd_kinds.specs.declared.kind.Kind.TheVariants.{Era}
 use Rattle.pd_kinds.specs.declared.kind.Stage.TheVariants.{Whole}
 use Rattle.pd_kinds.specs.EraFormat.{era_fields}
@@ -9,8 +9,8 @@ use Rattle.pd_kinds.specs.Graph.{block_at}
 use Rattle.pd_kinds.specs.Meaning.{EraMeaning, era_meaning}
 use Rattle.pd_kinds.specs.Stages.{faults}
 use Rattle.pd_answers.specs.QueryLines.{begins_run, is_since, run_line}
-use Rattle.pd_query.specs.declared.fault.QueryFault.{QueryFault}
-use Rattle.pd_query.specs.Puts.{Puts}
+use Rattle.pd_query.specs.declared.query.QueryFault.{QueryFault}
+use Rattle.pd_query.specs.Query.{Puts}
 
 -- of blocks with these eras, the lines of the longest runs written in an era or later that begin with one of some blocks
 abbrev pub since_of : ℕ → List ℕ → List ℕ → List ℕ

@@ -1,19 +1,15 @@
 //! What is asked of a cache or of an era target that was found sound, and put as text: its own text, and which blocks of
-//! an era target were written since an era.
+//! an era target were written since an era (`cache_dump`, `era_dump`, `era_invalidate`).
 //!
 //! What is put is said over the bytes of any image that the device tells. The laws say what that comes to in an
 //! image without faults.
 #![tactic(auto)]
 
 mod cache;
-mod cache_lines;
 mod era;
-mod era_lines;
-mod eras_given;
 mod laws;
 mod runs;
 mod since;
-mod since_lines;
 mod supers;
 
 pub use cache::{CacheDump, TextOfCache};

@@ -1,25 +1,24 @@
-//! Runs of neighbouring blocks whose eras count as the same, printed part by part.
+//! Runs of neighbouring blocks whose eras count as the same, printed part by part (`era_dump`, `era_invalidate`).
 
 ghost use Rattle.std.specs.Prelude.{◌≡◌, ◌<◌, ◌≤◌, ◌^◌, length, map, slice_index, take};
+ghost use Rattle.pd_grammar.specs.EraText.{eras_from};
 ghost use Rattle.pd_image.specs.Device.{IsAttached, OnlyReads};
 ghost use Rattle.pd_lines.specs.Printer.{printing};
-ghost use Rattle.pd_spells.specs.EraText.{eras_from};
-ghost use Rattle.pd_era_meaning.specs.Parts.{blocks_left, eras_left};
-ghost use Rattle.pd_query.specs.Puts.{PrintsSome};
-ghost use Rattle.pd_query.specs.Failing.{QueryEnds};
-ghost use Rattle.pd_dumps.specs.Runs.{runs_of};
+ghost use Rattle.pd_meaning_era.specs.Parts.{blocks_left, eras_left};
+ghost use Rattle.pd_query.specs.Query.{PrintsSome, QueryEnds};
+ghost use Rattle.pd_dumps.specs.EraLines.{runs_of};
 
-use pd_era_meaning::Eras;
 use pd_image::{Device, Sink};
 use pd_lines::Printer;
+use pd_meaning_era::Eras;
 use pd_query::QueryFault;
 
 /// What the eras of blocks count as, and what is printed of a run of them.
 pub(crate) trait RunKind {
-    ghost use Rattle.std.specs.Prelude.{◌≡◌, ◌≤◌, ℕ, List};
+    ghost use Rattle.std.specs.Prelude.{◌≡◌, ℕ, List};
     ghost use Rattle.pd_lines.specs.Printer.{printing};
     ghost use Rattle.pd_lines.specs.Printing.{Prints};
-    ghost use Rattle.pd_query.specs.Failing.{SinkFails};
+    ghost use Rattle.pd_query.specs.Query.{SinkFails};
 
     /// What an era counts as.
     ghost counts: { Self → ℕ → ℕ };
@@ -60,10 +59,10 @@ impl OpenRun {
     ghost use Rattle.std.specs.Prelude.{◌≡◌, ◌+◌, ◌<◌, ◌≤◌, ◌^◌, ◌++◌, ℕ, List, [], OnOk, length, map};
     ghost use Rattle.pd_lines.specs.Printer.{printing};
     ghost use Rattle.pd_lines.specs.Printing.{Prints};
-    ghost use Rattle.pd_spells.specs.EraText.{eras_from};
-    ghost use Rattle.pd_query.specs.Failing.{SinkFails};
-    ghost use Rattle.pd_dumps.specs.Runs.{end_of, text_from};
-    ghost use Rattle.pd_dumps.specs.Cut.{PrintsUpTo};
+    ghost use Rattle.pd_grammar.specs.EraText.{eras_from};
+    ghost use Rattle.pd_query.specs.Query.{SinkFails};
+    ghost use Rattle.pd_dumps.specs.EraLines.{end_of, text_from};
+    ghost use Rattle.pd_dumps.specs.EraLines.{PrintsUpTo};
 
     /// No run, before block 0.
     fn none() -> OpenRun
@@ -84,7 +83,8 @@ impl OpenRun {
     ) -> Result<(), QueryFault>
         requires { (K.state printer.old.out.now).access ≡ 1 }
         ensures same_reference { printer.new.out.ghost_name ≡ printer.old.out.ghost_name }
-        ensures prints { Prints (text_from (R.line kind.now) self.now []) result (printing K.state printer.old) (printing K.state printer.new) }
+        ensures prints { Prints (text_from (R.line kind.now) self.now []) result (printing K.state printer.old)
+            (printing K.state printer.new) }
         ensures faults { SinkFails result (K.state printer.old.out.now).faults (K.state printer.new.out.now).faults }
     {
         if self.length == 0 {
@@ -105,7 +105,8 @@ impl OpenRun {
         requires few { end_of self.old + length < 2 ^ 32 }
         requires open { (K.state printer.old.out.now).access ≡ 1 }
         ensures same_reference { printer.new.out.ghost_name ≡ printer.old.out.ghost_name }
-        ensures prints { (later : List ℕ) → PrintsUpTo (text_from (R.line kind.now) self.old (eras_from value length ++ later)) (text_from (R.line kind.now) self.new later) result (printing K.state printer.old) (printing K.state printer.new) }
+        ensures prints { (later : List ℕ) → PrintsUpTo (text_from (R.line kind.now) self.old (eras_from value length ++ later))
+            (text_from (R.line kind.now) self.new later) result (printing K.state printer.old) (printing K.state printer.new) }
         ensures number { OnOk result (end_of self.new ≡ end_of self.old + length) }
         ensures faults { SinkFails result (K.state printer.old.out.now).faults (K.state printer.new.out.now).faults }
     {
@@ -133,7 +134,8 @@ impl OpenRun {
         requires few { end_of self.old + length eras.now < 2 ^ 32 }
         requires open { (K.state printer.old.out.now).access ≡ 1 }
         ensures same_reference { printer.new.out.ghost_name ≡ printer.old.out.ghost_name }
-        ensures prints { (later : List ℕ) → PrintsUpTo (text_from (R.line kind.now) self.old (map (R.counts kind.now) eras.now ++ later)) (text_from (R.line kind.now) self.new later)
+        ensures prints { (later : List ℕ) → PrintsUpTo (text_from (R.line kind.now) self.old (map (R.counts kind.now) eras.now ++ later))
+            (text_from (R.line kind.now) self.new later)
             result (printing K.state printer.old) (printing K.state printer.new) }
         ensures number { OnOk result (end_of self.new ≡ end_of self.old + length eras.now) }
         ensures faults { SinkFails result (K.state printer.old.out.now).faults (K.state printer.new.out.now).faults }
@@ -177,9 +179,11 @@ pub(crate) fn add_runs<R: RunKind, D: Device, K: Sink>(
     requires dev { IsAttached (D.state dev.old) }
     requires open { (K.state printer.old.out.now).access ≡ 1 }
     ensures same_reference { printer.new.out.ghost_name ≡ printer.old.out.ghost_name }
-    ensures prints { PrintsSome (D.state dev.old).held (λ image. runs_of (R.line kind.now) (map (R.counts kind.now) (eras_left image eras.old))) result (printing K.state printer.old) (printing K.state printer.new) }
+    ensures prints { PrintsSome (D.state dev.old).held (λ image. runs_of (R.line kind.now)
+        (map (R.counts kind.now) (eras_left image eras.old))) result (printing K.state printer.old) (printing K.state printer.new) }
     ensures kept { OnlyReads (D.state dev.old) (D.state dev.new) }
-    ensures faults { QueryEnds result (D.state dev.old).faults (D.state dev.new).faults (K.state printer.old.out.now).faults (K.state printer.new.out.now).faults }
+    ensures faults { QueryEnds result (D.state dev.old).faults
+        (D.state dev.new).faults (K.state printer.old.out.now).faults (K.state printer.new.out.now).faults }
 {
     let mut run = OpenRun::none();
     while eras.next(dev)? {

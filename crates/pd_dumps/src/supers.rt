@@ -1,4 +1,4 @@
-//! The superblocks that are asked.
+//! The superblocks that are asked (`cache_dump`, `era_dump`, `era_invalidate`).
 
 ghost use Rattle.std.specs.Prelude.{◌≡◌, ◌≤◌, IfOk, IfSome, length};
 ghost use Rattle.pd_kinds.specs.Objects.{CountsFault};

@@ -1,3 +1,2 @@
-pub mod SetLemmas
 pub mod WholeLemmas
-pub mod ReadyLemmas
+pub mod SetLemmas

@@ -5,22 +5,22 @@ use Rattle.std.proofs.lemmas.Bool.{ne_eqb}
 use Rattle.std.proofs.lemmas.Grind.{flat_map-append}
 use Rattle.std.proofs.lemmas.List.{map-append}
 use Rattle.std.proofs.lemmas.List.FromFn.{map-range_with_len_more}
-use Rattle.pd_kinds.specs.Edge.{Edge}
+use Rattle.pd_kinds.specs.Graph.{Edge, Graph, block_at, block_of, is_reached, nodes, pair, role_of}
 use Rattle.pd_kinds.specs.EraFormat.{writeset_root}
-use Rattle.pd_kinds.specs.Graph.{Graph, block_at, block_of, is_reached, nodes, pair, role_of}
 use Rattle.pd_kinds.specs.Layout.{leaf_entries, node_entries_of}
 use Rattle.pd_kinds.specs.Node.{Entry, entry_count, is_inner_node, key_at, value_at}
 use Rattle.pd_kinds.specs.Stages.{IsReached}
 use Rattle.pd_kinds.specs.Whole.{array_whole, reached_writesets}
-use Rattle.pd_laws.specs.InOrder.{AreInOrder}
+use Rattle.pd_kinds.proofs.NumberLemmas.{range_split}
+use Rattle.pd_kinds.specs.InOrder.{AreInOrder}
 use Rattle.pd_graph.specs.declared.audit.Audit.{Audit}
 use Rattle.pd_graph.proofs.BitLemmas.{pair_block, pair_role, range_more}
-use Rattle.pd_tree.specs.Sound.{IsCleanPair}
-use Rattle.pd_tree.specs.TreeRoles.{HasEraTrees}
-use Rattle.pd_tree.proofs.TableLemmas.{block_pair, leaf_edges_at, role_pair}
-use Rattle.pd_whole.proofs.RoleLemmas.{one_of, passing, range_split}
-use Rattle.pd_whole.specs.Charges.{Charges}
-use Rattle.pd_whole.proofs.ChargeLemmas.{charges_none, charges_then}
+use Rattle.pd_tree.specs.Search.{IsCleanPair, HasEraTrees}
+use Rattle.pd_tree.proofs.TreeLemmas.{block_pair, leaf_edges_at, role_pair}
+use Rattle.pd_tree.proofs.SoundLemmas.{singles}
+use Rattle.pd_check.proofs.RefsLemmas.{one_of, passing}
+use Rattle.pd_check.specs.Known.{Charges}
+use Rattle.pd_check.proofs.SharedLemmas.{charges_none, charges_then}
 use Rattle.pd_era.specs.Whole.{first_sets, set_array, set_tests, sets_at, sets_before}
 
 module _ {Y : Type 0} where
@@ -124,11 +124,6 @@ first_none block = refl
 pub first_at : (P : Entry → Type 0) (block : List ℕ) (n i : ℕ) → AllByRecursion P (first_sets block n) → i < n → P (set_at block i)
 unfolding first_sets
 first_at P block n i all within = at_range P (set_at block) n i all within
-
--- the bits of the writesets of a reached leaf are reached
-singles : {X Y : Type 0} → (f : X → Y) (Q : Y → Type 0) (xs : List X) → AllByRecursion Q (flat_map (λ x. f x ∷ []) xs) → AllByRecursion (λ x. Q (f x)) xs
-singles f Q [] all = tt
-singles f Q (x ∷ xs) all = (all.0, singles f Q xs all.1)
 
 lead_by : (inner : Bool) (graph : Graph) (image : List (List ℕ)) (b : ℕ) → is_inner_node (block_at image b) ≡ inner → HasEraTrees graph → IsCleanPair graph image (pair b 2)
     → AllByRecursion (λ (e : Edge). IsReached graph image e.block e.role) (graph.edges 2 b (block_at image b))

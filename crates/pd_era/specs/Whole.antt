@@ -1,23 +1,23 @@
 -- What the rules of a whole era target are looked at over.
-use Rattle.std.specs.Prelude.{◌≡◌, ℕ, ◌+◌, ◌==◌, if◌then◌else◌, List, [], ◌∷◌, ◌++◌, map}
+-- The copies of an era target's superblock: the superblock itself, in role 0, and the metadata snapshot, in role 1.
+use Rattle.std.specs.Prelude.{◌≡◌, ℕ, ◌+◌, ◌==◌, if◌then◌else◌, List, [], ◌∷◌, ◌++◌, map, Bool}
 use Rattle.std.specs.List.{flat_map, range_with_len}
-use Rattle.pd_kinds.specs.EraFormat.{EraFields, era_fields, writeset_bits, writeset_root}
-use Rattle.pd_kinds.specs.Graph.{Graph, block_at, is_reached, pair}
+use Rattle.pd_kinds.specs.EraFormat.{EraFields, era_fields, writeset_bits, writeset_root, era_snap_bad, era_super_bad, era_super_edges, snap_edges}
+use Rattle.pd_kinds.specs.Graph.{Graph, block_at, is_reached, pair, Edge}
 use Rattle.pd_kinds.specs.Layout.{leaf_entries}
 use Rattle.pd_kinds.specs.Node.{Entry, key_at, value_at}
 use Rattle.pd_kinds.specs.Stages.{IsReached}
 use Rattle.pd_kinds.specs.Whole.{Array, WholeTest, array_whole, bitmap_tests, reached_writesets, writeset_array}
-use Rattle.pd_array.specs.declared.word.Word.TheVariants.{Four, Eight}
-use Rattle.pd_laws.specs.InOrder.{AreInOrder}
+use Rattle.pd_kinds.specs.InOrder.{AreInOrder}
+use Rattle.pd_kinds.specs.declared.rule.Rule.{Rule}
+use Rattle.pd_array.specs.declared.array.Word.TheVariants.{Four, Eight}
 use Rattle.pd_graph.specs.declared.audit.Audit.{Audit}
 use Rattle.pd_graph.specs.Audit.{blocks_of}
-use Rattle.pd_whole.specs.Refs.{number_in}
-use Rattle.pd_tree.specs.Roots.{HasEraRoots}
-use Rattle.pd_tree.specs.TreeRoles.{HasEraTrees}
-use Rattle.pd_whole.specs.Known.{IsKnown}
-use Rattle.pd_arrays.specs.declared.roles.ArrayRoles.{ArrayRoles}
-use Rattle.pd_arrays.specs.Arrays.{array_of}
-use Rattle.pd_arrays.specs.KindReads.{kind_reads}
+use Rattle.pd_tree.specs.Search.{HasEraRoots, HasEraTrees}
+use Rattle.pd_check.specs.Refs.{number_in}
+use Rattle.pd_check.specs.Known.{IsKnown}
+use Rattle.pd_check.specs.declared.array_rules.ArrayRoles.{ArrayRoles}
+use Rattle.pd_check.specs.Arrays.{array_of, kind_reads}
 
 -- the arrays of an era target: the eras of the blocks, and the bits of a writeset
 abbrev pub eras : ArrayRoles
@@ -95,3 +95,9 @@ snap_reads snap = if snap == 0 then 0 else 1
 abbrev pub whole_reads : Audit → EraFields → ℕ
 whole_reads audit fields =
     kind_reads audit eras + (snap_reads fields.snap_root + (kind_reads audit bits + number_in audit 2 (blocks_of audit)))
+
+abbrev pub super_copy_rules : ℕ → ℕ → ℕ → List ℕ → Rule → Bool
+super_copy_rules nr role place block = if role == 0 then era_super_bad nr block else era_snap_bad nr place block
+
+abbrev pub super_copy_edges : ℕ → List ℕ → List Edge
+super_copy_edges role block = if role == 0 then era_super_edges (era_fields block) else snap_edges block

@@ -1,4 +1,4 @@
-//! An era target's metadata as a table.
+//! An era target's metadata as a table (`era_check`).
 
 use pd_array::Word;
 use pd_kinds::{Block, Edges, EraSuper, Rules, era_role};
@@ -15,8 +15,8 @@ pub type EraFormat = Tabled<EraTable>;
 
 impl Table for EraTable {
     ghost use Rattle.pd_kinds.specs.EraFormat.{era_layout};
-    ghost use Rattle.pd_laws.proofs.EraTable.{era_table};
-    ghost use Rattle.pd_era.specs.Copies.{super_copy_edges, super_copy_rules};
+    ghost use Rattle.pd_kinds.proofs.EraTable.{era_table};
+    ghost use Rattle.pd_era.specs.Whole.{super_copy_edges, super_copy_rules};
 
     const ROLES: u8 = era_role::ROLES;
 

@@ -1,10 +1,8 @@
-//! An era target's metadata: its format, as a walk sees it, and its check.
+//! An era target's metadata: its format, as a walk sees it, and its check (`era_check`).
 #![tactic(auto)]
 
 mod check;
-mod era;
 mod format;
-mod snap;
 mod whole;
 mod writesets;
 

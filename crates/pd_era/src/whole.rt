@@ -1,6 +1,6 @@
-//! The rules of a whole era target, where no block has a rule up to the order of the trees.
+//! The rules of a whole era target, where no block has a rule up to the order of the trees (`era_check`).
 
-ghost use Rattle.std.specs.Prelude.{◌≡◌, ℕ, ◌+◌, ◌<◌, ◌≤◌, ◌++◌, [], ◌∷◌, List, IfSome, OnOk};
+ghost use Rattle.std.specs.Prelude.{◌≡◌, ℕ, ◌+◌, ◌≤◌, ◌++◌, [], ◌∷◌, List, IfSome, OnOk};
 ghost use Rattle.std.specs.List.{flat_map};
 ghost use Rattle.pd_kinds.specs.Objects.{CountsFault};
 ghost use Rattle.pd_kinds.specs.Graph.{Graph};
@@ -8,21 +8,18 @@ ghost use Rattle.pd_kinds.specs.Stages.{IsReached};
 ghost use Rattle.pd_kinds.specs.Whole.{array_whole, reached_writesets};
 ghost use Rattle.pd_image.specs.Device.{IsAttached, OnlyReads};
 ghost use Rattle.pd_graph.specs.Audit.{blocks_of, KeepsButRules};
-ghost use Rattle.pd_whole.specs.Refs.{number_in};
-ghost use Rattle.pd_whole.specs.Charges.{Charges};
-ghost use Rattle.pd_arrays.specs.ArrayMarks.{places_of};
-ghost use Rattle.pd_arrays.specs.Arrays.{AreAllCounted, AreCounted, AreMarked, HasArrays, KeepsBlocks, array_of};
-ghost use Rattle.pd_arrays.specs.KindReads.{kind_reads};
-ghost use Rattle.pd_era.specs.Whole.{IsReady, arrays, bits as bits_of, current_bits, eras as eras_of, set_tests, snap_eras, snap_reads, tests_named, whole_reads};
+ghost use Rattle.pd_check.specs.Refs.{number_in};
+ghost use Rattle.pd_check.specs.Known.{Charges};
+ghost use Rattle.pd_check.specs.Arrays.{places_of, AreAllCounted, AreCounted, AreMarked, HasArrays, KeepsBlocks, array_of, kind_reads};
+ghost use Rattle.pd_era.specs.Whole.{IsReady, arrays, bits as bits_of, current_bits, eras as eras_of};
+ghost use Rattle.pd_era.specs.Whole.{set_tests, snap_eras, snap_reads, tests_named, whole_reads};
 
-use crate::snap::mark_snap;
-use crate::writesets::{check_writeset, mark_writesets};
+use crate::writesets::{check_writeset, mark_snap, mark_writesets};
 use pd_array::Word;
-use pd_arrays::{ArrayMarks, ArrayRoles, check_array, fill_marks};
+use pd_check::{ArrayMarks, ArrayRoles, check_array, fill_marks, mark_shared};
 use pd_graph::{Audit, Format};
 use pd_image::{Device, Failed};
 use pd_kinds::{EraSuper, era_role};
-use pd_whole::mark_shared;
 
 /// The arrays of the eras of all blocks.
 pub(crate) fn eras() -> ArrayRoles
@@ -61,7 +58,8 @@ fn mark_eras<F: Format, D: Device>(
     requires roles { F.ROLES ≡ 10 }
     ensures charges { OnOk result (IfSome (D.state dev.old).held (λ image. IsReady (F.graph format.now) image audit.old fields.now
         → AreCounted (F.graph format.now) image eras_of marks.old
-        → Charges (flat_map (array_whole (F.graph format.now) image) (array_of eras_of fields.now.array_root (fields.now.blocks ∷ []) ∷ snap_eras image fields.now.snap_root)) audit.old audit.new)) }
+        → Charges (flat_map (array_whole (F.graph format.now) image) (array_of eras_of fields.now.array_root (fields.now.blocks ∷ [])
+        ∷ snap_eras image fields.now.snap_root)) audit.old audit.new)) }
     ensures blocks { KeepsBlocks audit.old eras_of marks.old marks.new }
     ensures places { places_of marks.new ≡ places_of marks.old }
     ensures reads { (D.state dev.new).reads ≤ (D.state dev.old).reads + (kind_reads audit.old eras_of + snap_reads fields.now.snap_root) }
@@ -105,7 +103,8 @@ fn mark_bits<F: Format, D: Device>(
         → AreCounted (F.graph format.now) image bits_of marks.old
         → Charges (flat_map (array_whole (F.graph format.now) image) (current_bits fields.now.current_bits fields.now.current_root)
         ++ set_tests (F.graph format.now) image (reached_writesets (F.graph format.now) image)) audit.old audit.new)) }
-    ensures reads { (D.state dev.new).reads ≤ (D.state dev.old).reads + (kind_reads audit.old bits_of + number_in audit.old 2 (blocks_of audit.old)) }
+    ensures reads { (D.state dev.new).reads ≤ (D.state dev.old).reads
+        + (kind_reads audit.old bits_of + number_in audit.old 2 (blocks_of audit.old)) }
     ensures rules { KeepsButRules audit.old audit.new }
     ensures kept { OnlyReads (D.state dev.old) (D.state dev.new) }
     ensures faults { CountsFault result (D.state dev.old).faults (D.state dev.new).faults }
@@ -130,7 +129,8 @@ pub(crate) fn mark_era<F: Format, D: Device>(
     requires within { blocks_of audit.old ≤ (D.state dev.old).blocks }
     requires roles { F.ROLES ≡ 10 }
     ensures charges { OnOk result (IfSome (D.state dev.old).held (λ image. IsReady (F.graph format.now) image audit.old fields.now
-        → AreAllCounted arrays (F.graph format.now) image marks.old → Charges (tests_named (F.graph format.now) image fields.now) audit.old audit.new)) }
+        → AreAllCounted arrays (F.graph format.now) image marks.old
+        → Charges (tests_named (F.graph format.now) image fields.now) audit.old audit.new)) }
     ensures reads { (D.state dev.new).reads ≤ (D.state dev.old).reads + whole_reads audit.old fields.now }
     ensures rules { KeepsButRules audit.old audit.new }
     ensures kept { OnlyReads (D.state dev.old) (D.state dev.new) }

@@ -6,9 +6,8 @@ use Rattle.std.proofs.lemmas.Bool.{cases_lt, false≢true}
 use Rattle.std.proofs.lemmas.List.{length-take}
 use Rattle.std.proofs.lemmas.List.Elements.{All-nil, All-cons, All-append}
 use Rattle.std.proofs.lemmas.Option.{slice_get_past, slice_get-get_or}
-use Rattle.pd_files.specs.BlockFile.{is_at}
-use Rattle.pd_files.specs.FileCall.{FileCall, gave}
-use Rattle.pd_files.specs.Given.{place, given, or_else, IsGivenAt, only_looks, LooksMore}
+use Rattle.pd_files.specs.FileDevice.{is_at}
+use Rattle.pd_files.specs.FileCall.{FileCall, gave, place, given, or_else, IsGivenAt, only_looks, LooksMore}
 
 -- the elements of the front of a list
 slice_get-take : (n : ℕ) (xs : List ℕ) (i : ℕ) → i < n → slice_get (take n xs) i ≡ slice_get xs i

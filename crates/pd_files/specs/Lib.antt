@@ -1,7 +1,4 @@
-pub mod BlockFile
 pub mod FileCall
 pub mod FileDevice
-pub mod Given
+pub mod Streams
 pub mod Run
-pub mod StdSink
-pub mod StdSource

@@ -2,12 +2,11 @@
 
 ghost use Rattle.std.specs.Prelude.{◌≡◌, ◌+◌, ◌*◌, ◌/◌, ◌^◌, ◌<◌, ◌∷◌, ◌↔◌, true, ℕ, IsTrue, Some, None, is_ok, OnOk, OnErr, if◌then◌else◌};
 ghost use Rattle.std.proofs.Props.{props};
-ghost use Rattle.pd_files.specs.FileCall.{wrote, synced, after_moving};
-ghost use Rattle.pd_files.specs.Given.{place, given, FailsAlone, IsGivenAt, LooksMore};
+ghost use Rattle.pd_files.specs.FileCall.{wrote, synced, after_moving, place, given, FailsAlone, IsGivenAt, LooksMore};
 ghost use Rattle.pd_files.specs.Run.{Serves, kept_bytes};
 
 use crate::recorded_file::{FileCalls, RecordedFile};
-use crate::run::{RUN_BLOCKS, Run};
+use crate::run::{RUN_BLOCKS, ReadBlocks};
 use pd_kinds::{BLOCK_SIZE, Block};
 use std::alloc::Global;
 use std::fs::OpenFile;
@@ -24,7 +23,7 @@ pub(crate) struct BlockFile<F> {
     /// Whether the last block was read, so that a run may follow. None follows a write: where each block that is read
     /// is written back, a run would read most of them in vain.
     reading: bool,
-    run: Run,
+    run: ReadBlocks,
     ghost stands: { (b : ℕ) → position ≡ Some b → place file.log.calls ≡ Some (4096 * b) } by { Prim.hlevel props },
     ghost told: { IsGivenAt file.log.calls (4096 * run.first) (kept_bytes run) } by { Prim.hlevel props },
 }
@@ -36,13 +35,13 @@ impl<F> BlockFile<F> {
             file: RecordedFile::new(file),
             position: None,
             reading: false,
-            run: Run::new(alloc),
+            run: ReadBlocks::new(alloc),
         }
     }
 }
 
 impl<F: Read + Write + Seek + OpenFile> BlockFile<F> {
-    ghost use Rattle.pd_files.specs.BlockFile.{calls_of, is_at};
+    ghost use Rattle.pd_files.specs.FileDevice.{calls_of, is_at};
 
     /// Reads block b of so many: from the run that is kept, or a new one, or else by itself.
     pub(crate) fn read(&mut self, b: u64, blocks: u64, into: &mut Block) -> io::Result<()>
@@ -114,7 +113,8 @@ impl<F: Read + Write + Seek + OpenFile> BlockFile<F> {
     /// Writes block b. Nothing is kept from then on.
     pub(crate) fn write(&mut self, b: u64, from: &Block) -> io::Result<()>
         requires { b + 1 < 2 ^ 64 }
-        ensures made { OnOk result (calls_of self.new ≡ wrote from.now.0 true ∷ after_moving (is_at self.old.position b) b (calls_of self.old)) }
+        ensures made { OnOk result (calls_of self.new
+            ≡ wrote from.now.0 true ∷ after_moving (is_at self.old.position b) b (calls_of self.old)) }
         ensures stands { self.new.position ≡ (if is_ok result then Some (b + 1) else None) }
     {
         let known = self.stands_at(b);
@@ -151,7 +151,8 @@ fn block_behind(b: u64, bytes: usize) -> Option<u64>
 /// Moves to the first byte of the block, where the file isn't `known` to stand there.
 fn move_to_block<F: FileCalls>(file: &mut F, b: u64, known: bool) -> io::Result<()>
     ensures moved { OnOk result (F.calls file.new ≡ after_moving known b (F.calls file.old)) }
-    ensures stands { OnOk result ((IsTrue known → place (F.calls file.old) ≡ Some (4096 * b)) → place (F.calls file.new) ≡ Some (4096 * b)) }
+    ensures stands { OnOk result ((IsTrue known → place (F.calls file.old) ≡ Some (4096 * b))
+        → place (F.calls file.new) ≡ Some (4096 * b)) }
     ensures made { LooksMore 1 (F.calls file.old) (F.calls file.new) }
     ensures failed { OnErr result (FailsAlone b (F.calls file.new)) }
     ensures kept { (at : ℕ) → given (F.calls file.new) at ≡ given (F.calls file.old) at }

@@ -7,15 +7,10 @@
 mod block_file;
 mod file_device;
 mod open_files;
-mod outcome;
-mod reading;
-mod record;
 mod recorded_file;
 mod run;
-mod std_sink;
-mod std_source;
+mod streams;
 
 pub use file_device::FileDevice;
 pub use open_files::OpenFiles;
-pub use std_sink::StdSink;
-pub use std_source::StdSource;
+pub use streams::{StdSink, StdSource};

@@ -1,13 +1,13 @@
 //! An open file that keeps a record of its calls, so that it is proved which were made, and in which order.
 
 ghost use Rattle.std.specs.Prelude.{◌≡◌, ◌≤◌, ◌∷◌, [], List, true, false, length, take, is_ok, IfOk, OnErr};
-ghost use Rattle.pd_files.specs.FileCall.{FileCall, sought, gave, wrote, synced};
+ghost use Rattle.std.specs.Borrow.{ftrue};
+ghost use Rattle.pd_files.specs.FileCall.{FileCall, sought, gave, wrote, synced, call_of};
 
-use crate::reading::read_some;
-use crate::record::Record;
 use std::fs::OpenFile;
 use std::io;
 use std::io::{ErrorKind, Read, Seek, SeekFrom, Write};
+use std::marker::{Model, PhantomData};
 
 const SOUGHT: u64 = 0;
 
@@ -117,4 +117,48 @@ fn seek<F: Seek>(file: &mut F, at: u64) -> io::Result<()> {
         return Err(ErrorKind::Other.into());
     }
     Ok(())
+}
+
+// A list of the calls of a file, which only clauses read: it takes no room.
+
+/// The calls so far, the newest first.
+#[derive(Drop)]
+pub(crate) struct Record {
+    marker: PhantomData<u8>,
+    pub(crate) ghost calls: { List FileCall },
+}
+
+impl Model for Record {
+    ghost also_owns = { λ _. ftrue };
+}
+
+impl Record {
+    /// No call was made.
+    pub(crate) fn new() -> Record
+        ensures { result.calls ≡ [] }
+    {
+        Record {
+            marker: PhantomData,
+        }
+    }
+
+    /// One call more, by its numbers and its bytes.
+    pub(crate) fn note(&mut self, _numbers: &[u64], _bytes: &[u8])
+        ensures { self.new.calls ≡ call_of _numbers.now _bytes.now ∷ self.old.calls }
+    {}
+}
+
+// A read of a file that no signal cuts off.
+
+/// Reads once, and again where a signal cut in. 0 is the end of the file.
+pub(crate) fn read_some<F: Read>(file: &mut F, into: &mut [u8]) -> io::Result<usize>
+    ensures { IfOk result (λ n. n ≤ length into.new) }
+{
+    for _ in 0..u64::MAX {
+        match file.read(into) {
+            Err(error) if error.kind() == ErrorKind::Interrupted => {}
+            answer => return answer,
+        }
+    }
+    Err(ErrorKind::Interrupted.into())
 }

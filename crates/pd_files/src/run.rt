@@ -1,9 +1,9 @@
 //! The run of blocks that was read last, from which the next reads are served.
 
-ghost use Rattle.std.specs.Prelude.{◌≡◌, ◌+◌, ◌-◌, ◌*◌, ◌/◌, ◌<◌, ◌≤◌, ◌∷◌, ◌⊎◌, [], ◌↔◌, IsTrue, IfOk, OnOk, OnErr, length, slice_range, take, true, false};
+ghost use Rattle.std.specs.Prelude.{◌≡◌, ◌+◌, ◌-◌, ◌*◌, ◌/◌, ◌≤◌, ◌∷◌, [], ◌↔◌, IsTrue, IfOk, OnOk};
+ghost use Rattle.std.specs.Prelude.{OnErr, length, slice_range, take, true, false};
 ghost use Rattle.std.specs.Vec.{vec_len};
-ghost use Rattle.pd_files.specs.FileCall.{FileCall, gave};
-ghost use Rattle.pd_files.specs.Given.{LooksMore};
+ghost use Rattle.pd_files.specs.FileCall.{gave, LooksMore};
 
 use crate::recorded_file::FileCalls;
 use pd_kinds::{BLOCK_SIZE, Block};
@@ -15,27 +15,27 @@ pub(crate) const RUN_BLOCKS: u64 = 16;
 
 /// The blocks that one read gave, one after another.
 #[derive(Drop)]
-pub(crate) struct Run {
+pub(crate) struct ReadBlocks {
     /// The first block that is kept.
     first: u64,
     /// How many blocks are kept.
     count: u64,
     /// Their bytes, and room for more: 64 KiB from the first run on.
-    room: Vec<u8>,
-    ghost fits: { 4096 * count ≤ length room.items },
+    buffer: Vec<u8>,
+    ghost fits: { 4096 * count ≤ length buffer.items },
 }
 
-impl Run {
+impl ReadBlocks {
     ghost use Rattle.pd_files.specs.Run.{Serves, kept_bytes};
 
     /// Nothing is kept.
-    pub(crate) fn new(alloc: Global) -> Run
+    pub(crate) fn new(alloc: Global) -> ReadBlocks
         ensures { result.count ≡ 0 }
     {
-        Run {
+        ReadBlocks {
             first: 0,
             count: 0,
-            room: Vec::new(alloc),
+            buffer: Vec::new(alloc),
         }
     }
 
@@ -52,7 +52,7 @@ impl Run {
         ensures { into.new.0 ≡ slice_range (kept_bytes self.now) (4096 * (b - self.now.first)) (4096 * (b - self.now.first) + 4096) }
     {
         let at = (b - self.first) as usize * BLOCK_SIZE;
-        into.0.copy_from_slice(&self.room[at..at + BLOCK_SIZE]);
+        into.0.copy_from_slice(&self.buffer[at..at + BLOCK_SIZE]);
     }
 
     /// Keeps nothing from now on.
@@ -73,41 +73,42 @@ impl Run {
         requires few { blocks ≤ 16 }
         ensures first { IfOk result (λ came. self.new.first ≡ b) }
         ensures count { IfOk result (λ came. self.new.count ≡ came / 4096) }
-        ensures came { IfOk result (λ came. (came ≤ length self.new.room.items) × (F.calls file.new ≡ gave (take came self.new.room.items) true ∷ F.calls file.old)) }
+        ensures came { IfOk result (λ came. (came ≤ length self.new.buffer.items)
+            × (F.calls file.new ≡ gave (take came self.new.buffer.items) true ∷ F.calls file.old)) }
         ensures most { IfOk result (λ came. came ≤ 4096 * blocks) }
         ensures none { OnErr result (self.new.count ≡ 0) }
         ensures failed { OnErr result (LooksMore 1 (F.calls file.old) (F.calls file.new)) }
     {
         self.count = 0;
-        make_room(&mut self.room)?;
+        take_memory(&mut self.buffer)?;
         let bytes = blocks as usize * BLOCK_SIZE;
-        let came = take_front(file, &mut self.room, bytes)?;
+        let came = take_front(file, &mut self.buffer, bytes)?;
         self.first = b;
         self.count = (came / BLOCK_SIZE) as u64;
         Ok(came)
     }
 }
 
-/// Reads once into the front of the room, so many bytes at most.
-fn take_front<F: FileCalls>(file: &mut F, room: &mut [u8], most: usize) -> io::Result<usize>
-    requires { most ≤ length room.old }
+/// Reads once into the front of the buffer, so many bytes at most.
+fn take_front<F: FileCalls>(file: &mut F, buffer: &mut [u8], most: usize) -> io::Result<usize>
+    requires { most ≤ length buffer.old }
     ensures some { IfOk result (λ came. came ≤ most) }
-    ensures came { IfOk result (λ came. F.calls file.new ≡ gave (take came room.new) true ∷ F.calls file.old) }
+    ensures came { IfOk result (λ came. F.calls file.new ≡ gave (take came buffer.new) true ∷ F.calls file.old) }
     ensures failed { OnErr result (F.calls file.new ≡ gave [] false ∷ F.calls file.old) }
 {
-    file.take(&mut room[..most])
+    file.take(&mut buffer[..most])
 }
 
 /// Room for the longest run.
-fn make_room(room: &mut Vec<u8>) -> Result<(), AllocError>
-    ensures { OnOk result (vec_len room.new ≡ 65536) }
+fn take_memory(buffer: &mut Vec<u8>) -> Result<(), AllocError>
+    ensures { OnOk result (vec_len buffer.new ≡ 65536) }
 {
-    lengthen(room, RUN_BLOCKS as usize * BLOCK_SIZE)
+    lengthen(buffer, RUN_BLOCKS as usize * BLOCK_SIZE)
 }
 
 /// Cuts it to this length, or fills it up with zeros.
-fn lengthen(room: &mut Vec<u8>, bytes: usize) -> Result<(), AllocError>
-    ensures { OnOk result (vec_len room.new ≡ bytes) }
+fn lengthen(buffer: &mut Vec<u8>, bytes: usize) -> Result<(), AllocError>
+    ensures { OnOk result (vec_len buffer.new ≡ bytes) }
 {
-    room.resize(bytes, 0)
+    buffer.resize(bytes, 0)
 }

@@ -1,5 +1,5 @@
-pub mod Begins
-pub mod Putting
 pub mod Spelled
+pub mod Putting
+pub mod GeneratedShape
 pub mod Numbers
-pub mod Filling
+pub mod Rehearsing

@@ -10,15 +10,12 @@ use Rattle.std.proofs.lemmas.List.Sums.{sum_by-append, sum_by-cons}
 use Rattle.pd_kinds.specs.Meaning.{Mapping, ThinDevice}
 use Rattle.pd_grammar.specs.Texts.{text_of_lines, written}
 use Rattle.pd_grammar.proofs.GrammarLemmas.{AreLines}
-use Rattle.pd_grammar.proofs.PlainLemmas.{printable_join, printable_lacks}
-use Rattle.pd_grammar.proofs.SplitLemmas.{Lacks}
-use Rattle.pd_spells.specs.ThinText.{Run, Line, Part, thin, AreApart, continues_run, joined_runs, joined_part, head_of, lines_of_parts, text_of_pool}
-use Rattle.pd_spells.proofs.ThinJoin.{runs_joined}
-use Rattle.pd_spells.proofs.ThinLaws.{thin_language}
-use Rattle.pd_spells.proofs.ThinRead.{FitsLine, Placed, thin_grammar}
-use Rattle.pd_answers.specs.Generated.{generated_mapped}
-use Rattle.pd_gen.specs.Pool.{device_mapping, snapshot_mapping, generated_device, generated_pool}
-use Rattle.pd_gen.specs.Lines.{generated_lines, part_of, run_of}
+use Rattle.pd_grammar.proofs.WordLemmas.{printable_join, printable_lacks, Lacks}
+use Rattle.pd_grammar.specs.ThinText.{Run, Line, Part, thin, AreApart, continues_run, joined_runs, joined_part, head_of, lines_of_parts, text_of_pool}
+use Rattle.pd_grammar.proofs.ThinLaws.{runs_joined, thin_language}
+use Rattle.pd_grammar.proofs.ThinRead.{FitsLine, Placed, thin_grammar}
+use Rattle.pd_answers.specs.Rehearsals.{generated_mapped}
+use Rattle.pd_gen.specs.Lines.{device_mapping, snapshot_mapping, generated_device, generated_pool, generated_lines, part_of, run_of}
 use Rattle.pd_gen.proofs.Spelled.{generated_means, have_mappings, written_out}
 
 -- two runs don't join where the data blocks don't follow each other, or the times differ

@@ -6,13 +6,14 @@ use Rattle.std.proofs.lemmas.Bool.{cases_Bool}
 use Rattle.std.proofs.lemmas.Grind.{flat_map-append}
 use Rattle.std.proofs.lemmas.List.{append-nil}
 use Rattle.std.proofs.lemmas.List.FromFn.{length-map-range_with_len}
+use Rattle.std.proofs.Math.Nat.{sub-zero}
 use Rattle.pd_kinds.specs.Meaning.{ThinDevice, Mapping}
 use Rattle.pd_grammar.specs.Texts.{text_of_lines, written}
-use Rattle.pd_spells.specs.Lawful.{AreMappings, IsDevice, IsLawfulPool}
-use Rattle.pd_spells.specs.ThinText.{Run, Line, first_line, pool_line, device_line, map_line, end_line, thin, mappings_of, device_of_part, MeansPool, SpellsPool}
-use Rattle.pd_answers.specs.Generated.{generated_text, generated_mapped, device_map, numbers_line, snapshot_map}
-use Rattle.pd_gen.specs.Lines.{generated_lines, part_of, run_of}
-use Rattle.pd_gen.specs.Pool.{details_with, device_mapping, snapshot_mapping, generated_device, generated_head, generated_pool}
+use Rattle.pd_grammar.specs.Lawful.{AreMappings, IsDevice, IsLawfulPool}
+use Rattle.pd_grammar.specs.ThinText.{Run, Line, first_line, pool_line, device_line, map_line, end_line, thin, mappings_of, device_of_part, MeansPool, SpellsPool}
+use Rattle.pd_answers.specs.Rehearsals.{generated_text, generated_mapped, device_map, numbers_line, snapshot_map}
+use Rattle.pd_gen.specs.Lines.{generated_lines, part_of, run_of, details_with, device_mapping, snapshot_mapping, generated_device, generated_head, generated_pool, lines_from}
+use Rattle.pd_gen.specs.declared.lines.NextLine.TheVariants.{Pool}
 
 -- the runs written out are the mappings
 pub written_out : (ms : List Mapping) → flat_map mappings_of (map run_of ms) ≡ ms
@@ -179,3 +180,16 @@ generated_means number few = record {
 
 pub generated_spells : (number : ℕ) → number ≤ 10000 → SpellsPool (generated_text number) (generated_pool number)
 generated_spells number few = record { lines = generated_lines number; bytes = text_is number; means = generated_means number few }
+
+-- The text of the generator's lines.
+
+all_lines : (number : ℕ) → first_line ∷ (lines_from number Pool ++ (end_line ∷ [])) ≡ generated_lines number
+unfolding generated_pool
+all_lines number =
+    rw (sub-zero (generated_mapped number), append-nil (map map_line (map run_of (map snapshot_mapping (range_with_len 0 (generated_mapped number)))))) refl
+
+-- a text that has all lines left
+pub all_left : (number : ℕ) (lines : List Line) → lines ≡ lines_from number Pool → text_of_lines thin (first_line ∷ (lines ++ (end_line ∷ []))) ≡ generated_text number
+all_left number lines all =
+    ap (λ (lines : List Line). text_of_lines thin (first_line ∷ (lines ++ (end_line ∷ [])))) all
+    ∙ (ap (text_of_lines thin) (all_lines number) ∙ sym (text_is number))

@@ -2,8 +2,8 @@
 use Rattle.std.specs.Prelude.{ℕ, if◌then◌else◌, List, [], ◌∷◌, ◌++◌, drop, Some, None}
 use Rattle.pd_kinds.specs.Objects.{SourceState}
 use Rattle.pd_grammar.specs.Texts.{text_of_lines}
-use Rattle.pd_spells.specs.ThinText.{end_line, thin}
-use Rattle.pd_answers.specs.Generated.{generated_text}
+use Rattle.pd_grammar.specs.ThinText.{end_line, thin}
+use Rattle.pd_answers.specs.Rehearsals.{generated_text}
 use Rattle.pd_gen.specs.declared.source.GenSource.{GenSource}
 use Rattle.pd_gen.specs.Lines.{lines_left}
 

@@ -1,3 +1,3 @@
-pub mod Pool
 pub mod Lines
+pub mod Rehearsed
 pub mod GenSource

@@ -1,11 +1,10 @@
-//! The generator: the text of a pool with a device and its snapshot, for a number, as a source.
+//! The generator: the text of a pool with a device and its snapshot, for a number, as a source. And the rehearsal: that pool is
+//! restored onto a device, checked, dumped and counted.
 #![tactic(auto)]
 
-mod laws;
 mod lines;
-mod put;
+mod rehearsal;
 mod source;
 
-pub use laws::generated_text_spells_a_pool;
-pub use put::put_generated;
-pub use source::GenSource;
+pub use rehearsal::{Rehearsal, RehearseFault, rehearse};
+pub use source::{GenSource, generated_text_spells_a_pool, put_generated};

@@ -1,10 +1,9 @@
-//! The lines of the generator's text, made one by one.
+//! The lines of the generator's text, made one by one (`thin_generate`, `thin_rehearse`).
 
 ghost use Rattle.std.specs.Prelude.{◌≡◌, ◌<◌, ◌^◌, ◌∷◌, [], IfNone, IfSome};
-ghost use Rattle.pd_spells.specs.ThinText as p;
+ghost use Rattle.pd_grammar.specs.ThinText as p;
 ghost use Rattle.pd_texts.specs.ThinLine.{line_of};
-ghost use Rattle.pd_gen.specs.Lines.{GivesGenerated, lines_from, run_of};
-ghost use Rattle.pd_gen.specs.Pool.{device_mapping, details_with, generated_head, snapshot_mapping};
+ghost use Rattle.pd_gen.specs.Lines.{GivesGenerated, lines_from, run_of, device_mapping, details_with, generated_head, snapshot_mapping};
 
 use pd_texts::{Run2, ThinLine};
 use pd_value::Details;

@@ -1,13 +1,17 @@
-//! The generator's text as a source.
+//! The generator's text as a source (`thin_generate`, `thin_rehearse`).
 
-ghost use Rattle.std.specs.Prelude.{true, false, ◌≡◌, ◌+◌, ◌<◌, ◌≤◌, ◌++◌, [], length, take, min};
-ghost use Rattle.pd_spells.specs.ThinText.{end_line, first_line, thin};
-ghost use Rattle.pd_texts.specs.Printed.{text_of_line};
+ghost use Rattle.std.specs.Prelude.{true, false, ◌≡◌, ◌<◌, ◌≤◌, ◌++◌, [], length, take, min, OnOk, ℕ};
+ghost use Rattle.pd_kinds.specs.Objects.{CountsFault, Appends, AppendsFront};
+ghost use Rattle.pd_grammar.specs.ThinText.{first_line, thin, SpellsPool};
+ghost use Rattle.pd_answers.specs.Rehearsals.{generated_text};
+ghost use Rattle.pd_image.specs.Sink.{KeepsSink};
+ghost use Rattle.pd_texts.specs.ThinLine.{text_of_line};
+ghost use Rattle.pd_gen.specs.Lines.{generated_pool};
 
 use crate::lines::Generated;
-use pd_image::{Failed, Source};
+use pd_image::{Failed, Sink, Source};
 use pd_kinds::Kind;
-use pd_lines::{PieceBuffer, TextLine};
+use pd_lines::{PIECE_ROOM, PieceBuffer, TextLine};
 use pd_texts::{bytes_of_end, bytes_of_first};
 
 /// A source whose text is that of the generator for a number. It opens every path and tells none, never fails, and takes
@@ -135,3 +139,33 @@ fn copy_front(from: &[u8], into: &mut [u8]) -> usize
     into[..n].copy_from_slice(&from[..n]);
     n
 }
+
+// The generator's text, put to a sink (`thin_generate`).
+
+/// Puts the text of a number, in pieces. It takes no memory.
+///
+/// Fails where the sink does; then a front of the text was put.
+pub fn put_generated<K: Sink>(number: u32, out: &mut K) -> Result<(), Failed>
+    requires { (K.state out.old).access ≡ 1 }
+    ensures whole { OnOk result (Appends (generated_text number) (K.state out.old).written (K.state out.new).written) }
+    ensures front { AppendsFront (generated_text number) (K.state out.old).written (K.state out.new).written }
+    ensures kept { KeepsSink (K.state out.old) (K.state out.new) }
+    ensures faults { CountsFault result (K.state out.old).faults (K.state out.new).faults }
+{
+    let mut source = GenSource::new(number);
+    let mut piece = [0; PIECE_ROOM];
+    loop {
+        let n = source.fill(&mut piece);
+        if n == 0 {
+            return Ok(());
+        }
+        out.put(&piece[..n])?;
+    }
+}
+
+// What the generator's text means (`thin_generate`, `thin_rehearse`).
+
+/// The generator's text of a number up to 10000 spells a pool, so no line of it is refused for what it says.
+pub fn generated_text_spells_a_pool()
+    ensures { (number : ℕ) → number ≤ 10000 → SpellsPool (generated_text number) (generated_pool number) }
+{}

@@ -13,16 +13,13 @@ use Rattle.uuid.proofs.TextLemmas.{by_index_length}
 use Rattle.pd_grammar.specs.declared.cause.TextCause.{TextCause}
 use Rattle.pd_grammar.specs.declared.cause.TextCause.TheVariants.{Word, Number}
 use Rattle.pd_grammar.specs.declared.value.Field.{Field}
-use Rattle.pd_grammar.specs.declared.value.Field.TheVariants as f
 use Rattle.pd_grammar.specs.declared.value.Value.{Value}
-use Rattle.pd_grammar.specs.declared.value.Value.TheVariants as v
-use Rattle.pd_grammar.specs.Words.{uuid_of, policy_of, number_of, result_map}
-use Rattle.pd_grammar.specs.Texts.{written}
+use Rattle.pd_grammar.specs.Texts.{uuid_of, policy_of, number_of, result_map, written}
 use Rattle.pd_grammar.specs.Tables.{field_of, word_of, value_of, with_value, values_in, bytes_at, number_at, LinePlace, second_line, later_line, later_line_where, may_stand, LineKind, Table, words_of, words_by, kind_named, line_in, parsed_by, first_among, first_by, format_of}
-use Rattle.pd_grammar.proofs.NumberLemmas.{ok-err, same_Ok, chosen, both, number_is, number_again}
-use Rattle.pd_grammar.proofs.PlainLemmas.{Plain, Printable, number_plain, uuid_plain, uuid_again, uuid_is, bytes_everywhere, policy_plain, policy_again, policy_is}
-use Rattle.pd_grammar.proofs.ShortLemmas.{room_of, joined_short, decimal_short}
+use Rattle.pd_grammar.proofs.WordLemmas.{ok-err, same_Ok, chosen, both, number_is, number_again, Plain, Printable, number_plain, uuid_plain, uuid_again, uuid_is, bytes_everywhere, policy_plain, policy_again, policy_is, room_of, joined_short, decimal_short}
 use Rattle.pd_grammar.proofs.GrammarLemmas.{IsGrammar, AreWords, Passes}
+use Rattle.pd_grammar.specs.declared.value.Field.TheVariants as f
+use Rattle.pd_grammar.specs.declared.value.Value.TheVariants as v
 
 -- a value that can be written
 abbrev FitsValue : Value → Type 0

@@ -1,5 +1,10 @@
-pub mod Causes
-pub mod Words
 pub mod Texts
-pub mod Tables
+pub mod Lines
+pub mod Need
+pub mod CacheText
+pub mod EraText
 pub mod Spelling
+pub mod Tables
+pub mod Early
+pub mod Lawful
+pub mod ThinText

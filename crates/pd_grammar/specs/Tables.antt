@@ -9,11 +9,10 @@ use Rattle.uuid.specs.Text.{hyphenated_text, lower}
 use Rattle.pd_grammar.specs.declared.cause.TextCause.{TextCause}
 use Rattle.pd_grammar.specs.declared.cause.TextCause.TheVariants.{Word, Number}
 use Rattle.pd_grammar.specs.declared.value.Field.{Field}
-use Rattle.pd_grammar.specs.declared.value.Field.TheVariants as f
 use Rattle.pd_grammar.specs.declared.value.Value.{Value}
+use Rattle.pd_grammar.specs.Texts.{uuid_of, policy_of, number_of, result_map, TextFormat, Test}
+use Rattle.pd_grammar.specs.declared.value.Field.TheVariants as f
 use Rattle.pd_grammar.specs.declared.value.Value.TheVariants as v
-use Rattle.pd_grammar.specs.Words.{uuid_of, policy_of, number_of, result_map}
-use Rattle.pd_grammar.specs.Texts.{TextFormat, Test}
 
 -- the field that a value stands in
 abbrev pub field_of : Value → Field

@@ -1,7 +1,7 @@
 //! The causes of a refusal.
 
 ghost use Rattle.std.specs.Prelude.{◌≡◌, ◌≤◌, length};
-ghost use Rattle.pd_grammar.specs.Causes.{cause_name, cause_number};
+ghost use Rattle.pd_grammar.specs.Lines.{cause_name, cause_number};
 
 /// Why a line of a text is refused, by its number.
 ///

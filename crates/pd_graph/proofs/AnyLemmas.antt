@@ -1,14 +1,16 @@
 -- Tests of lists and of ranges that say the same.
-use Rattle.std.proofs.Common.{◌≡◌, inl, inr, ℕ, zero, suc, ◌+◌, ◌<◌, ◌≤◌, Bool, true, false, ◌&&◌, ◌||◌, cond, nat_eq, List, [], ◌∷◌, filter, Option, Some, None, IfSome, refl, sym, ◌∙◌, ap, eq-eqb, arith}
-use Rattle.std.specs.List.{list_any, range_with_len}
+use Rattle.std.proofs.Common.{◌≡◌, inl, inr, ℕ, zero, suc, ◌+◌, ◌<◌, ◌≤◌, Bool, true, false, ◌&&◌, ◌||◌, cond, nat_eq, List, [], ◌∷◌, filter, refl, sym, ◌∙◌, ap, eq-eqb, arith, drop, map, Some}
+use Rattle.std.specs.List.{list_any, range_with_len, count_by, slice_get}
 use Rattle.std.proofs.lemmas.Bool.{or_cases, or_left, or_right, and_parts, and_from, eqb-true}
-use Rattle.pd_laws.proofs.PathLemmas.{passing_below, passes_below}
-
--- two tests that lead to each other are one
-pub same_test : (a b : Bool) → (a ≡ true → b ≡ true) → (b ≡ true → a ≡ true) → a ≡ b
-same_test true b there back = sym (there refl)
-same_test false true there back = back refl
-same_test false false there back = refl
+use Rattle.std.proofs.Math.Bool.{or_assoc, or_comm, or-false}
+use Rattle.std.proofs.lemmas.List.{drop_more}
+use Rattle.std.proofs.lemmas.List.Sums.{sum_by-append}
+use Rattle.std.proofs.lemmas.Option.{get_or_from_slice_get, slice_get_within}
+use Rattle.pd_kinds.proofs.NumberLemmas.{same_test}
+use Rattle.pd_kinds.proofs.PathLemmas.{passing_below, passes_below}
+use Rattle.pd_kinds.specs.Graph.{Edge, pair}
+use Rattle.pd_graph.specs.Marks.{is_in, Follows, seen_of}
+use Rattle.pd_graph.specs.declared.marks.Marks.{Marks}
 
 -- tests that agree below n agree on whether any number passes
 pub any_same : (f g : ℕ → Bool) (n : ℕ) → ((q : ℕ) → q < n → g q ≡ f q) → list_any g (range_with_len 0 n) ≡ list_any f (range_with_len 0 n)
@@ -66,12 +68,41 @@ pub none_passes : (f : ℕ → Bool) (xs : List ℕ) → ((q : ℕ) → f q ≡ 
 none_passes f [] none = refl
 none_passes f (x ∷ xs) none = rw (none x, none_passes f xs none) refl
 
--- what follows of the value, where there is one
-pub if_both : {X : Type 0} {P Q R : X → Type 0} → (o : Option X) → ((x : X) → P x → Q x → R x) → IfSome o P → IfSome o Q → IfSome o R
-if_both None leads p q = tt
-if_both (Some x) leads p q = leads x p q
+-- The edges of a block, one after another.
 
--- what holds of each value holds of the one that there is
-pub if_any : {X : Type 0} {P : X → Type 0} → (o : Option X) → ((x : X) → P x) → IfSome o P
-if_any None all = tt
-if_any (Some x) all = all x
+-- no edge was followed
+pub follows_none : (marks : Marks) → Follows [] marks marks
+follows_none marks = record {
+  places = λ nr places. places;
+  seen = λ p. sym (or-false (is_in (seen_of marks) p));
+  read = refl;
+  counts = λ b. omega arith;
+}
+
+-- the edges from one on
+pub edges_from : (edges : List Edge) (i k : ℕ) (e : Edge) → k + 1 ≡ i → slice_get edges k ≡ Some e → drop k edges ≡ e ∷ drop i edges
+edges_from edges i k e next found =
+    drop_more edges k e (slice_get_within edges k e found)
+    ∙ (ap (λ (x : Edge). x ∷ drop (k + 1) edges) (get_or_from_slice_get edges k e e found)
+    ∙ ap (λ (from : ℕ). e ∷ drop from edges) next)
+
+-- an edge that is followed last, and stands before the others
+pub follows_before : (e : Edge) (others : List Edge) (a b c : Marks) → Follows others a b → Follows (e ∷ []) b c → Follows (e ∷ others) a c
+follows_before e others a b c first second = record {
+  places = λ nr places. second.places nr (first.places nr places);
+  seen = λ p.
+      let here = nat_eq (pair e.block e.role) p in
+      let rest = list_any (λ t. nat_eq t p) (map (λ (edge : Edge). pair edge.block edge.role) others) in
+      second.seen p ∙ (ap (λ (x : Bool). x || (here || false)) (first.seen p)
+      ∙ (or_assoc (is_in (seen_of a) p) rest (here || false)
+      ∙ ap (λ (x : Bool). is_in (seen_of a) p || x) (or_comm rest (here || false) ∙ ap (λ (x : Bool). x || rest) (or-false here))));
+  read = second.read ∙ first.read;
+  counts = λ place.
+      let now = second.counts place in
+      let before = first.counts place in
+      let test = λ (r : ℕ). nat_eq r place in
+      let to = λ (edge : Edge). edge.block in
+      let joined : count_by test (map to (e ∷ others)) ≡ count_by test (map to (e ∷ [])) + count_by test (map to others) =
+      sum_by-append (λ (r : ℕ). cond (test r) 1 0) (e.block ∷ []) (map to others) in
+      omega arith;
+}

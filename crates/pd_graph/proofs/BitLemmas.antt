@@ -1,19 +1,17 @@
 -- Sets of roles: what one role more changes.
-use Rattle.std.proofs.Common.{◌≡◌, ◌≢◌, ℕ, zero, suc, ◌+◌, ◌*◌, ◌/◌, ◌%◌, ◌<◌, ◌≤◌, ◌^◌, Bool, true, false, ◌||◌, nat_eq, get_or, set, length, refl, sym, ◌∙◌, ap, arith, bit_or, eq-eqb, cond, nat_lt, filter, List, [], ◌∷◌, ◌++◌, inl, inr, get_or-set_same, get_or-set_other}
+use lib.Count.{ones_step}
+use Rattle.std.proofs.Common.{◌≡◌, ℕ, zero, suc, ◌+◌, ◌*◌, ◌/◌, ◌%◌, ◌<◌, ◌≤◌, ◌^◌, Bool, true, false, ◌||◌, nat_eq, get_or, set, length, refl, sym, ◌∙◌, ap, arith, bit_or, eq-eqb, cond, nat_lt, filter, List, [], ◌∷◌, ◌++◌, inl, inr, get_or-set_same, get_or-set_other}
 use Rattle.std.proofs.Math.Bool.{or-false, or-true}
 use Rattle.std.specs.Int.{bit_at, w16}
 use Rattle.std.specs.Int.RustNames.{count_ones}
 use Rattle.std.proofs.Math.Nat.{pow-suc}
-use lib.Count.{ones_step}
 use Rattle.std.proofs.lemmas.Nat.Bits.{bit_at_set_same, bit_at_set_other, bit_at-zero, bit_at-suc, bit_at_lowest}
 use Rattle.std.specs.List.{range_with_len}
 use Rattle.std.proofs.lemmas.Bool.{cases_eq, cases_lt, both_ways}
 use Rattle.std.proofs.lemmas.List.{get_or_past}
-use Rattle.pd_graph.specs.Roles.{has_bit, has_several, is_in, IsAllRead}
-
--- numbers that differ fail the test
-pub differ : (a b : ℕ) → a ≢ b → nat_eq a b ≡ false
-differ a b h = grind (arith, h)
+use Rattle.pd_kinds.proofs.KindsListLemmas.{length_first}
+use Rattle.pd_kinds.proofs.NumberLemmas.{differ}
+use Rattle.pd_graph.specs.Marks.{has_bit, has_several, is_in, IsAllRead}
 
 -- the bits of a set with one role more
 pub has_bit_more : (roles role other : ℕ) → role < 16
@@ -59,11 +57,6 @@ pub range_more : (a n j : ℕ) → a + n ≡ j → range_with_len a (suc n) ≡ 
 range_more a zero j e = ap (λ (x : ℕ). x ∷ []) (let same : a ≡ j = omega arith in same)
 range_more a (suc n) j e =
     ap (λ (xs : List ℕ). a ∷ xs) (range_more (a + 1) n j (omega arith))
-
--- one number more that passes
-length_first : (b : Bool) (x : ℕ) (kept : List ℕ) → length (cond b (x ∷ kept) kept) ≡ cond b 1 0 + length kept
-length_first true x kept = omega arith
-length_first false x kept = omega arith
 
 lowest_digit : (n : ℕ) → cond (nat_eq (n % 2) 1) 1 0 ≡ n % 2
 lowest_digit n = elim (cases_eq (n % 2) 1) [

@@ -1,9 +1,7 @@
 pub mod BitLemmas
-pub mod BlockTableLemmas
 pub mod TableLemmas
-pub mod Weights
-pub mod EdgeLemmas
 pub mod AnyLemmas
-pub mod WalkLemmas
-pub mod StartLemmas
 pub mod LeafNotes
+pub mod StartLemmas
+pub mod WalkLemmas
+pub mod Weights

@@ -4,21 +4,20 @@ use Rattle.std.specs.List.{list_any, flat_map, range_with_len}
 use Rattle.std.proofs.lemmas.Bool.{or_cases, or_right, eqb-true, both_ways}
 use Rattle.std.proofs.lemmas.List.Sums.{sum_by-cons}
 use Rattle.pd_kinds.specs.declared.rule.Rule.{Rule}
-use Rattle.pd_kinds.specs.declared.rule.Rule.TheVariants as r
 use Rattle.pd_kinds.specs.Rule.{same_rule}
-use Rattle.pd_kinds.specs.Edge.{Edge, edge_of}
-use Rattle.pd_kinds.specs.Graph.{Graph, block_at, pair, edges_of, next, is_reached, nodes, references, meta_count}
+use Rattle.pd_kinds.specs.Graph.{Edge, edge_of, Graph, block_at, pair, edges_of, next, is_reached, nodes, references, meta_count}
 use Rattle.pd_kinds.specs.Stages.{roles_of, walk_bad}
 use Rattle.pd_kinds.specs.Lawful.{IsLawful}
 use Rattle.pd_kinds.specs.Paths.{IsOnPath, start, edge}
+use Rattle.pd_kinds.proofs.NumberLemmas.{same_test}
+use Rattle.pd_kinds.proofs.PathLemmas.{path_from_reached, reached_from_path}
+use Rattle.pd_kinds.specs.declared.rule.Rule.TheVariants as r
 use Rattle.pd_graph.specs.declared.marks.Marks.{Marks}
-use Rattle.pd_graph.specs.Roles.{is_in, has_bit, has_several}
-use Rattle.pd_graph.specs.Marks.{HasPlaces, IsUnmarked, has_rule_in, seen_of, read_of, counts_of, rules_of, Follows}
+use Rattle.pd_graph.specs.Marks.{is_in, has_bit, has_several, HasPlaces, IsUnmarked, has_rule_in, seen_of, read_of, counts_of, rules_of, Follows}
 use Rattle.pd_graph.specs.Walk.{IsSafe, IsTold, IsDone, read_number, edges_to}
 use Rattle.pd_graph.proofs.BitLemmas.{is_in_none, is_in-pair}
 use Rattle.pd_graph.proofs.Weights.{none_weigh, same_weight, count_weighs}
-use Rattle.pd_laws.proofs.PathLemmas.{path_from_reached, reached_from_path}
-use Rattle.pd_graph.proofs.AnyLemmas.{same_test, any_same, same_kept, any_kept, none_passes}
+use Rattle.pd_graph.proofs.AnyLemmas.{any_same, same_kept, any_kept, none_passes}
 
 -- at the start only the superblock was met
 only_super : (old new : Marks) (p : ℕ) → IsUnmarked old → Follows (edge_of 0 0 ∷ []) old new → is_in (seen_of new) p ≡ true → p ≡ 0

@@ -1,5 +1,4 @@
 -- A pair more is taken and looked at: what holds on the way still holds.
-use Rattle.pd_kinds.specs.declared.limits.TheConstants.{MAX_META_BLOCKS}
 use Rattle.std.proofs.Common.{◌≡◌, ◌≢◌, inl, inr, ℕ, ◌+◌, ◌*◌, ◌/◌, ◌%◌, ◌^◌, ◌<◌, ◌≤◌, Bool, true, false, ◌&&◌, ◌||◌, cond, nat_eq, get_or, List, [], ◌∷◌, map, length, Some, refl, sym, ◌∙◌, ap, subst, eq-eqb, arith}
 use Rattle.std.proofs.Math.Bool.{or-false}
 use Rattle.std.specs.List.{list_any, count_by, AllByRecursion, range_with_len, slice_get}
@@ -7,19 +6,18 @@ use Rattle.std.specs.Option.{unwrap_or}
 use Rattle.std.proofs.lemmas.Bool.{or_cases, or_left, or_right, eqb-true, cases_eq, both_ways}
 use Rattle.std.proofs.lemmas.List.Sums.{count_by-le-length}
 use Rattle.std.proofs.lemmas.List.{length-map}
+use Rattle.pd_kinds.specs.declared.limits.TheConstants.{MAX_META_BLOCKS}
 use Rattle.pd_kinds.specs.declared.rule.Rule.{Rule}
-use Rattle.pd_kinds.specs.Edge.{Edge}
-use Rattle.pd_kinds.specs.Graph.{Graph, block_at, pair, edges_of, next, is_reached, nodes}
+use Rattle.pd_kinds.specs.Graph.{Edge, Graph, block_at, pair, edges_of, next, is_reached, nodes}
 use Rattle.pd_kinds.specs.Lawful.{IsWithin, KeepsLaws}
 use Rattle.pd_kinds.specs.Paths.{edge}
+use Rattle.pd_kinds.proofs.NumberLemmas.{differ}
+use Rattle.pd_kinds.proofs.PathLemmas.{reached_from_path}
 use Rattle.pd_graph.specs.declared.marks.Marks.{Marks}
-use Rattle.pd_graph.specs.Roles.{is_in, IsAllRead}
-use Rattle.pd_graph.specs.Weight.{weigh}
-use Rattle.pd_graph.specs.Marks.{HasPlaces, has_rule_in, seen_of, read_of, counts_of, rules_of, TakesPair, Follows, LooksAtPair, KeepsTables}
-use Rattle.pd_graph.specs.Walk.{IsSafe, IsTold, read_number, edges_to}
-use Rattle.pd_graph.proofs.BitLemmas.{differ, pair_block, pair_role}
+use Rattle.pd_graph.specs.Marks.{is_in, IsAllRead, HasPlaces, has_rule_in, seen_of, read_of, counts_of, rules_of, TakesPair, Follows, LooksAtPair, KeepsTables}
+use Rattle.pd_graph.specs.Walk.{weigh, IsSafe, IsTold, read_number, edges_to}
+use Rattle.pd_graph.proofs.BitLemmas.{pair_block, pair_role}
 use Rattle.pd_graph.proofs.Weights.{more_weight, wider_weight, ones_below, length_weighs}
-use Rattle.pd_laws.proofs.PathLemmas.{reached_from_path}
 use Rattle.pd_graph.proofs.AnyLemmas.{any_same, any_more}
 
 -- a pair was taken, and its block looked at

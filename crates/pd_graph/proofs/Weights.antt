@@ -4,8 +4,8 @@ use Rattle.std.proofs.Math.Bool.{or-false}
 use Rattle.std.specs.List.{count_by, flat_map, range_with_len}
 use Rattle.std.proofs.lemmas.Bool.{cases_eq}
 use Rattle.std.proofs.lemmas.List.Sums.{sum_by-append}
-use Rattle.pd_graph.specs.Weight.{weigh_list, weigh}
-use Rattle.pd_graph.proofs.BitLemmas.{differ}
+use Rattle.pd_kinds.proofs.NumberLemmas.{differ}
+use Rattle.pd_graph.specs.Walk.{weigh_list, weigh}
 
 -- tests that agree from a on weigh the same
 same_weight_from : (f g : ℕ → Bool) (w : ℕ → ℕ) (a n : ℕ) → ((q : ℕ) → a ≤ q → q < a + n → g q ≡ f q)
@@ -65,7 +65,7 @@ pub wider_weight : (f g : ℕ → Bool) (w : ℕ → ℕ) (n : ℕ) → ((q : �
 unfolding weigh
 wider_weight f g w n wider = wider_from f g w (range_with_len 0 n) wider
 
-at_most_one : (b : Bool) → cond b 1 0 ≤ 1
+pub at_most_one : (b : Bool) → cond b 1 0 ≤ 1
 at_most_one true = omega arith
 at_most_one false = omega arith
 

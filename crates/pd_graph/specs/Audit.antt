@@ -1,13 +1,12 @@
 -- What an audit tells of each block.
 use Rattle.std.specs.Prelude.{◌≡◌, ℕ, Bool, false, ◌||◌, ◌&&◌, slice_index}
 use Rattle.pd_kinds.specs.declared.rule.Rule.{Rule}
-use Rattle.pd_kinds.specs.declared.rule.Rule.TheVariants as r
 use Rattle.pd_kinds.specs.Rule.{same_rule}
+use Rattle.pd_kinds.specs.declared.rule.Rule.TheVariants as r
 use Rattle.pd_graph.specs.declared.audit.Audit.{Audit}
 use Rattle.pd_graph.specs.declared.notes.Note.{Note}
-use Rattle.pd_graph.specs.Roles.{has_several}
+use Rattle.pd_graph.specs.Marks.{has_several, has_rule_in, seen_of, counts_of, rules_of, IsUnmarked}
 use Rattle.pd_graph.specs.Notes.{no_note, note_in}
-use Rattle.pd_graph.specs.Marks.{has_rule_in, seen_of, counts_of, rules_of, IsUnmarked}
 
 -- the number of blocks
 abbrev pub blocks_of : Audit → ℕ

@@ -1,8 +1,8 @@
 -- What the calls of a format speak of.
-use Rattle.std.specs.Prelude.{◌≡◌, ℕ, ◌<◌, Bool, true, false, List, length}
+-- The pairs of a block and a role that a watcher of a walk was shown.
+use Rattle.std.specs.Prelude.{◌≡◌, ℕ, ◌<◌, Bool, true, false, List, length, ◌==◌, ◌||◌}
 use Rattle.pd_kinds.specs.declared.rule.Rule.{Rule}
-use Rattle.pd_kinds.specs.Edge.{Edge}
-use Rattle.pd_kinds.specs.Graph.{Graph}
+use Rattle.pd_kinds.specs.Graph.{Edge, Graph}
 
 -- a block without a bad rule in this role
 abbrev pub IsSound : Graph → ℕ → ℕ → List ℕ → Type 0
@@ -32,3 +32,16 @@ pub record AreContents (graph : Graph) (contents : Contents) : Type 0 where
   -- the bytes of an inner node have a key for each edge
   pub inner_keys : (role : ℕ) (block : List ℕ) → role < graph.roles → contents.is_inner role block ≡ true
       → length (contents.keys role block) ≡ length (contents.edges role block)
+
+-- a pair more, which wasn't among them
+pub record IsOneMore (p : ℕ) (before after : ℕ → Bool) : Type 0 where
+  pub unseen : before p ≡ false
+  pub pairs : (q : ℕ) → after q ≡ (before q || (q == p))
+
+-- the same pairs
+abbrev pub AreSame : (ℕ → Bool) → (ℕ → Bool) → Type 0
+AreSame pairs others = (p : ℕ) → others p ≡ pairs p
+
+-- none
+abbrev pub no_pairs : ℕ → Bool
+no_pairs p = false

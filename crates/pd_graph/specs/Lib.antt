@@ -1,9 +1,5 @@
-pub mod Format
-pub mod Roles
-pub mod Notes
-pub mod BlockTable
 pub mod Marks
-pub mod Audit
-pub mod Weight
 pub mod Walk
-pub mod Watch
+pub mod Format
+pub mod Audit
+pub mod Notes

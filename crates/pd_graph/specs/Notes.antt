@@ -3,7 +3,7 @@ use Rattle.std.specs.Prelude.{ℕ, ◌-◌, true, false, Some, None, if◌then�
 use Rattle.pd_graph.specs.declared.notes.Note.{Note}
 use Rattle.pd_graph.specs.declared.notes.KeptNote.{KeptNote}
 use Rattle.pd_graph.specs.declared.notes.Notes.{Notes}
-use Rattle.pd_graph.specs.BlockTable.{values_of}
+use Rattle.pd_graph.specs.Marks.{values_of}
 
 -- the note that is kept
 abbrev pub note_of : KeptNote → Note

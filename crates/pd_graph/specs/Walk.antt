@@ -1,9 +1,9 @@
 -- What a walk leaves: the reachable pairs, the rules that their blocks break, and the references.
-use Rattle.std.specs.Prelude.{◌≡◌, ◌⊎◌, ℕ, ◌+◌, ◌*◌, ◌%◌, ◌<◌, ◌≤◌, Bool, true, false, ◌==◌, ◌&&◌, if◌then◌else◌, List, map, slice_index}
-use Rattle.std.specs.List.{list_any, count_by, range_with_len}
+-- The sum of the weights of the numbers that pass a test, below a bound.
+use Rattle.std.specs.Prelude.{ℕ, ◌+◌, Bool, if◌then◌else◌, List, [], ◌∷◌, ◌≡◌, ◌⊎◌, ◌*◌, ◌%◌, ◌<◌, ◌≤◌, true, false, ◌==◌, ◌&&◌, map, slice_index}
+use Rattle.std.specs.List.{range_with_len, list_any, count_by}
 use Rattle.pd_kinds.specs.declared.rule.Rule.{Rule}
-use Rattle.pd_kinds.specs.Edge.{Edge}
-use Rattle.pd_kinds.specs.Graph.{Graph, block_at, pair, edges_of, next, is_reached, meta_count}
+use Rattle.pd_kinds.specs.Graph.{Edge, Graph, block_at, pair, edges_of, next, is_reached, meta_count}
 use Rattle.pd_kinds.specs.Stages.{walk_bad}
 use Rattle.pd_kinds.specs.Paths.{IsOnPath}
 use Rattle.pd_graph.specs.declared.audit.Audit.{Audit}
@@ -11,10 +11,17 @@ use Rattle.pd_graph.specs.declared.marks.Marks.{Marks}
 use Rattle.pd_graph.specs.declared.notes.Note.{Note}
 use Rattle.pd_graph.specs.Format.{IsSound}
 use Rattle.pd_graph.specs.Notes.{no_note, ends_note}
-use Rattle.pd_graph.specs.Roles.{has_bit, is_in, IsAllRead}
-use Rattle.pd_graph.specs.Weight.{weigh}
-use Rattle.pd_graph.specs.Marks.{HasPlaces, has_rule_in, seen_of, read_of, counts_of, rules_of}
+use Rattle.pd_graph.specs.Marks.{has_bit, is_in, IsAllRead, HasPlaces, has_rule_in, seen_of, read_of, counts_of, rules_of}
 use Rattle.pd_graph.specs.Audit.{roles_at, has_rule_at, count_at, note_at}
+
+-- the sum of the weights of the elements that pass the test
+abbrev pub weigh_list : (ℕ → Bool) → (ℕ → ℕ) → List ℕ → ℕ
+weigh_list f w [] = 0
+weigh_list f w (x ∷ xs) = (if f x then w x else 0) + weigh_list f w xs
+
+-- and of the numbers below n
+unfoldable pub weigh : (ℕ → Bool) → (ℕ → ℕ) → ℕ → ℕ
+weigh f w n = weigh_list f w (range_with_len 0 n)
 
 -- the audit has the marks of the walk of this image
 pub record IsWalked (graph : Graph) (image : List (List ℕ)) (audit : Audit) : Type 0 where

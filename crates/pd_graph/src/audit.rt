@@ -1,10 +1,9 @@
 //! What a walk and settling find out of each block.
 
-ghost use Rattle.pd_kinds.specs.declared.limits.TheConstants.{MAX_META_BLOCKS};
 ghost use Rattle.std.specs.Prelude.{◌≡◌, ℕ, ◌<◌, ◌≤◌, ◌==◌, ◌||◌, ◌&&◌, false, IfOk, if◌then◌else◌};
+ghost use Rattle.pd_kinds.specs.declared.limits.TheConstants.{MAX_META_BLOCKS};
 ghost use Rattle.pd_kinds.specs.declared.rule.Rule.{Rule};
-ghost use Rattle.pd_kinds.specs.RuleSet.{has_rule};
-ghost use Rattle.pd_kinds.specs.Rule.{same_rule};
+ghost use Rattle.pd_kinds.specs.Rule.{has_rule, same_rule};
 ghost use Rattle.pd_graph.specs.Marks.{HasPlaces};
 ghost use Rattle.pd_graph.specs.Notes.{size_of};
 
@@ -32,7 +31,8 @@ pub struct Audit {
 }
 
 impl Audit {
-    ghost use Rattle.pd_graph.specs.Audit.{blocks_of, has_walked, roles_at, has_rule_at, count_at, note_at, IsNew, KeepsButRules, KeepsButNotes, KeepsMarks};
+    ghost use Rattle.pd_graph.specs.Audit.{blocks_of, has_walked, roles_at, has_rule_at, count_at, note_at};
+    ghost use Rattle.pd_graph.specs.Audit.{IsNew, KeepsButRules, KeepsButNotes, KeepsMarks};
 
     /// An audit of so many blocks, from 1 to `MAX_META_BLOCKS`, that knows nothing of them. It reserves all the memory
     /// of the walk and of settling; want of it is the only error.

@@ -21,7 +21,7 @@ pub struct BlockTable<T> {
 
 impl<T: Copy> BlockTable<T> {
     ghost use Rattle.std.specs.Prelude.{◌≡◌, ◌<◌, length, replicate, slice_index_or, slice_set, IfOk};
-    ghost use Rattle.pd_graph.specs.BlockTable.{values_of};
+    ghost use Rattle.pd_graph.specs.Marks.{values_of};
 
     /// A table of so many places with this value.
     ///

@@ -1,18 +1,16 @@
 //! The marks of the walk, by block number.
 
-ghost use Rattle.pd_kinds.specs.declared.limits.TheConstants.{MAX_META_BLOCKS};
 ghost use Rattle.std.specs.Prelude.{◌≡◌, ℕ, ◌<◌, ◌==◌, ◌||◌, ◌&&◌, ◌+◌, ◌^◌, ◌≤◌, [], ◌∷◌, length, slice_index, IfOk, IfSome, IfNone};
+ghost use Rattle.pd_kinds.specs.declared.limits.TheConstants.{MAX_META_BLOCKS};
 ghost use Rattle.pd_kinds.specs.declared.rule.Rule.{Rule as BrokenRule};
-ghost use Rattle.pd_kinds.specs.Rule.{same_rule};
-ghost use Rattle.pd_kinds.specs.RuleSet.{has_rule};
-ghost use Rattle.pd_graph.specs.Roles.{IsUnreadAt, IsAllRead};
-ghost use Rattle.pd_kinds.specs.Edge.{edge_of};
+ghost use Rattle.pd_kinds.specs.Rule.{same_rule, has_rule};
+ghost use Rattle.pd_kinds.specs.Graph.{edge_of};
+ghost use Rattle.pd_graph.specs.Marks.{IsUnreadAt, IsAllRead};
 ghost use Rattle.pd_graph.specs.Format.{IsSound};
 
 use crate::block_table::BlockTable;
 use crate::format::Format;
 use crate::roles::{add_role, any_unread, unread_at};
-use crate::stack::Stack;
 use pd_kinds::{Block, Rule, Rules};
 use std::alloc::{AllocError, Global};
 
@@ -32,7 +30,8 @@ pub(crate) struct Marks {
 }
 
 impl Marks {
-    ghost use Rattle.pd_graph.specs.Marks.{seen_of, read_of, counts_of, rules_of, has_rule_in, HasPlaces, IsUnmarked, KeepsTables, TakesPair, Follows, LooksAtPair};
+    ghost use Rattle.pd_graph.specs.Marks.{seen_of, read_of, counts_of, rules_of, has_rule_in, HasPlaces};
+    ghost use Rattle.pd_graph.specs.Marks.{IsUnmarked, KeepsTables, TakesPair, Follows, LooksAtPair};
 
     /// Tables for so many blocks, without a mark.
     pub(crate) fn new(alloc: Global, nr: usize) -> Result<Marks, AllocError>
@@ -164,12 +163,42 @@ impl Marks {
         requires places { HasPlaces (F.graph format.now).nr self.old }
         requires room { (c : ℕ) → slice_index (counts_of self.old) c + 256 ≤ 2 ^ 64 }
         requires judged { (rule : BrokenRule) → has_rule broken.now rule ≡ (F.graph format.now).bad role b block.now.0 rule }
-        ensures { LooksAtPair ((F.graph format.now).edges role b block.now.0) b ((F.graph format.now).bad role b block.now.0) self.old self.new }
+        ensures { LooksAtPair ((F.graph format.now).edges role b block.now.0) b
+            ((F.graph format.now).bad role b block.now.0) self.old self.new }
     {
         if broken.is_empty() {
             self.follow(format, role, b, block);
         } else {
             self.add_rules(b as usize, broken);
         }
+    }
+}
+
+// Where a walk looks next.
+
+/// A stack of block numbers with a fixed number of places. It says where to look first for what is
+/// unread, and no more: what is unread stands in the tables, and a number without a place is left out.
+#[derive(Drop)]
+pub(crate) struct Stack {
+    numbers: Vec<u32>,
+}
+
+impl Stack {
+    /// An empty stack with so many places, whose memory is reserved.
+    pub(crate) fn new(alloc: Global, places: usize) -> Result<Stack, AllocError> {
+        let numbers = Vec::with_capacity(alloc, places)?;
+        Ok(Stack { numbers })
+    }
+
+    /// Puts a number on top, where there is a place.
+    pub(crate) fn push(&mut self, block: u32) {
+        if self.numbers.len() < self.numbers.capacity() {
+            let _ = self.numbers.push(block);
+        }
+    }
+
+    /// Takes the number on top.
+    pub(crate) fn pop(&mut self) -> Option<u32> {
+        self.numbers.pop()
     }
 }

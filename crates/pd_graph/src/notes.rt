@@ -1,8 +1,8 @@
 //! What is noted of the nodes of trees, by block number.
 
-ghost use Rattle.pd_kinds.specs.declared.limits.TheConstants.{MAX_META_BLOCKS};
 ghost use Rattle.std.specs.Prelude.{◌≡◌, ℕ, ◌<◌, ◌≤◌, ◌==◌, length, IfOk, if◌then◌else◌};
-ghost use Rattle.pd_graph.specs.BlockTable.{values_of};
+ghost use Rattle.pd_kinds.specs.declared.limits.TheConstants.{MAX_META_BLOCKS};
+ghost use Rattle.pd_graph.specs.Marks.{values_of};
 
 use crate::block_table::BlockTable;
 use std::alloc::{AllocError, Global};

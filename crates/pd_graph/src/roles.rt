@@ -2,8 +2,7 @@
 
 ghost use Rattle.std.specs.Prelude.{◌≡◌, ℕ, ◌<◌, ◌==◌, ◌||◌, true, length, slice_index, IfSome, IfNone};
 ghost use Rattle.pd_kinds.specs.Graph.{pair};
-ghost use Rattle.pd_graph.specs.Roles.{has_bit, has_several, is_in, IsUnread, IsUnreadAt, IsAllRead};
-ghost use Rattle.pd_graph.specs.BlockTable.{values_of};
+ghost use Rattle.pd_graph.specs.Marks.{has_bit, has_several, is_in, IsUnread, IsUnreadAt, IsAllRead, values_of};
 
 use crate::block_table::BlockTable;
 
@@ -13,14 +12,6 @@ pub fn has_role(roles: u16, role: u8) -> bool
     ensures { result ≡ has_bit roles role }
 {
     (roles >> role) & 1 == 1
-}
-
-/// The set with this role besides.
-pub(crate) fn with_role(roles: u16, role: u8) -> u16
-    requires { role < 16 }
-    ensures { (other : ℕ) → other < 16 → has_bit result other ≡ (has_bit roles other || other == role) }
-{
-    roles | (1 << role)
 }
 
 /// The lowest role that was met and not yet read.
@@ -53,7 +44,7 @@ pub(crate) fn add_role(table: &mut BlockTable<u16>, b: usize, role: u8)
     ensures places { length (values_of table.new) ≡ length (values_of table.old) }
     ensures roles { (p : ℕ) → is_in (values_of table.new) p ≡ (is_in (values_of table.old) p || (p == pair b role)) }
 {
-    let roles = with_role(table.get(b), role);
+    let roles = table.get(b) | (1 << role);
     table.set(b, roles);
 }
 
@@ -65,7 +56,8 @@ pub(crate) fn unread_at(
 ) -> Option<(usize, u8)>
     requires { length (values_of read.now) ≡ length (values_of seen.now) }
     ensures some { IfSome result (λ found. IsUnreadAt (values_of seen.now) (values_of read.now) found.0 found.1) }
-    ensures none { IfNone result ((role : ℕ) → role < 16 → has_bit (slice_index (values_of seen.now) b) role ≡ true → has_bit (slice_index (values_of read.now) b) role ≡ true) }
+    ensures none { IfNone result ((role : ℕ) → role < 16 → has_bit (slice_index (values_of seen.now) b) role ≡ true
+        → has_bit (slice_index (values_of read.now) b) role ≡ true) }
 {
     if seen.places() <= b {
         return None;

@@ -1,24 +1,23 @@
 //! The walk over all that block 0 leads to.
 
-ghost use Rattle.std.specs.Prelude.{◌≡◌, ℕ, ◌+◌, ◌<◌, ◌≤◌, List, length, is_ok, OnOk, IfSome};
+ghost use Rattle.std.specs.Prelude.{◌≡◌, ℕ, ◌+◌, ◌≤◌, List, length, is_ok, OnOk, IfSome, ◌⊎◌, ◌<◌, slice_get};
 ghost use Rattle.pd_kinds.specs.Objects.{CountsFault};
 ghost use Rattle.pd_kinds.specs.Graph.{is_reached, nodes};
+ghost use Rattle.pd_kinds.specs.declared.rule.Rule.{Rule};
+ghost use Rattle.pd_kinds.specs.Rule.{has_rule};
 ghost use Rattle.pd_image.specs.Device.{IsAttached, OnlyReads};
-ghost use Rattle.pd_graph.specs.Marks.{HasPlaces, read_of};
-ghost use Rattle.pd_graph.specs.Notes.{no_note, size_of, note_in};
-ghost use Rattle.pd_graph.specs.Roles.{is_in};
+ghost use Rattle.pd_graph.specs.Marks.{HasPlaces, read_of, is_in};
+ghost use Rattle.pd_graph.specs.Notes.{size_of, note_in, ends_note};
 ghost use Rattle.pd_graph.specs.Audit.{blocks_of, has_walked, note_at, IsNew};
-ghost use Rattle.pd_graph.specs.Walk.{IsWalked, AreLeavesNoted, HasNotedLeaves, IsSafe, IsTold, IsDone, read_number};
-ghost use Rattle.pd_graph.specs.Watch.{no_pairs};
+ghost use Rattle.pd_graph.specs.Walk.{IsWalked, AreLeavesNoted, HasNotedLeaves, IsSafe, IsTold, IsDone, read_number, NotesLeaf, NotesNone};
+ghost use Rattle.pd_graph.specs.Format.{no_pairs};
 
 use crate::audit::Audit;
-use crate::format::Format;
+use crate::format::{Format, NoWatch, Watch};
 use crate::marks::Marks;
-use crate::notes::Notes;
-use crate::noting::note_leaf;
-use crate::watch::{NoWatch, Watch};
+use crate::notes::{Note, Notes};
 use pd_image::{Device, Failed};
-use pd_kinds::Block;
+use pd_kinds::{Block, Rules};
 
 /// Reads every reachable block once in each of its roles, and marks in the audit the roles in which it
 /// was met, the rules that it breaks, and the references to it. It notes the leaves of trees that break no
@@ -38,7 +37,8 @@ pub fn walk<F: Format, D: Device>(audit: &mut Audit, format: &F, dev: &mut D) ->
     ensures notes { (b : ℕ) → (note_at audit.new b).height ≤ 1 }
 
     // At most one read for each reachable pair, also where one failed.
-    ensures reads { IfSome (D.state dev.old).held (λ image. (D.state dev.new).reads ≤ (D.state dev.old).reads + length (nodes (F.graph format.now) image)) }
+    ensures reads { IfSome (D.state dev.old).held
+        (λ image. (D.state dev.new).reads ≤ (D.state dev.old).reads + length (nodes (F.graph format.now) image)) }
     ensures kept { OnlyReads (D.state dev.old) (D.state dev.new) }
     ensures faults { CountsFault result (D.state dev.old).faults (D.state dev.new).faults }
 {
@@ -64,14 +64,16 @@ pub fn walk_watched<F: Format, D: Device, W: Watch>(
     ensures number { blocks_of audit.new ≡ blocks_of audit.old }
     ensures leaves { OnOk result (IfSome (D.state dev.old).held (λ image. HasNotedLeaves (F.graph format.now) image audit.new)) }
 
-    ensures seen { OnOk result (IfSome (D.state dev.old).held (λ image. W.has_seen watch.new (F.graph format.now) image (is_reached (F.graph format.now) image))) }
+    ensures seen { OnOk result (IfSome (D.state dev.old).held
+        (λ image. W.has_seen watch.new (F.graph format.now) image (is_reached (F.graph format.now) image))) }
     ensures room { W.has_room watch.new (F.graph format.now) }
 
     // Also where a read failed, and whatever the device gives.
     ensures notes { (b : ℕ) → (note_at audit.new b).height ≤ 1 }
 
     // At most one read for each reachable pair, also where one failed.
-    ensures reads { IfSome (D.state dev.old).held (λ image. (D.state dev.new).reads ≤ (D.state dev.old).reads + length (nodes (F.graph format.now) image)) }
+    ensures reads { IfSome (D.state dev.old).held
+        (λ image. (D.state dev.new).reads ≤ (D.state dev.old).reads + length (nodes (F.graph format.now) image)) }
     ensures kept { OnlyReads (D.state dev.old) (D.state dev.new) }
     ensures faults { CountsFault result (D.state dev.old).faults (D.state dev.new).faults }
 {
@@ -107,9 +109,11 @@ fn read_all<F: Format, D: Device, W: Watch>(
         AreLeavesNoted (F.graph format.now) image (is_in (read_of marks.new)) (note_in notes.new))) }
     ensures notes { (b : ℕ) → (note_in notes.new b).height ≤ 1 }
     ensures number { size_of notes.new ≡ size_of notes.old }
-    ensures seen { OnOk result (IfSome (D.state dev.old).held (λ image. W.has_seen watch.new (F.graph format.now) image (is_in (read_of marks.new)))) }
+    ensures seen { OnOk result (IfSome (D.state dev.old).held
+        (λ image. W.has_seen watch.new (F.graph format.now) image (is_in (read_of marks.new)))) }
     ensures room { W.has_room watch.new (F.graph format.now) }
-    ensures reads { IfSome (D.state dev.old).held (λ image. (D.state dev.new).reads ≤ (D.state dev.old).reads + length (nodes (F.graph format.now) image)) }
+    ensures reads { IfSome (D.state dev.old).held
+        (λ image. (D.state dev.new).reads ≤ (D.state dev.old).reads + length (nodes (F.graph format.now) image)) }
     ensures kept { OnlyReads (D.state dev.old) (D.state dev.new) }
     ensures faults { CountsFault result (D.state dev.old).faults (D.state dev.new).faults }
 {
@@ -122,4 +126,67 @@ fn read_all<F: Format, D: Device, W: Watch>(
         watch.see(format, role, b, &block, &broken);
     }
     Ok(())
+}
+
+// The notes of leaves, which the walk has in hand.
+
+/// Key i, where there is one, of so many.
+pub fn key_at<F: Format>(
+    format: &F,
+    role: u8,
+    block: &Block,
+    number: usize,
+    i: usize,
+) -> Option<u64>
+    requires role { role < F.ROLES }
+    requires number { number ≡ length ((F.contents format.now).keys role block.now.0) }
+    ensures { result ≡ slice_get ((F.contents format.now).keys role block.now.0) i }
+{
+    if i < number {
+        Some(format.key_of_any(role, block, i))
+    } else {
+        None
+    }
+}
+
+/// The note of a node without children: its own keys, of which a sound node has the least first and the
+/// greatest last.
+pub fn leaf_note<F: Format>(format: &F, role: u8, block: &Block) -> Note
+    requires role { role < F.ROLES }
+    ensures { result ≡ ends_note ((F.contents format.now).keys role block.now.0) }
+{
+    let number = format.keys_of_any(role, block);
+    let least = key_at(format, role, block, number, 0);
+    let greatest = key_at(format, role, block, number, number.saturating_sub(1));
+    Note {
+        least,
+        greatest,
+        below: number as u64,
+        height: 1,
+        in_range: true,
+    }
+}
+
+/// Notes block b where it is a leaf of a tree in this role, and breaks no rule.
+pub(crate) fn note_leaf<F: Format>(
+    notes: &mut Notes,
+    format: &F,
+    role: u8,
+    b: u64,
+    block: &Block,
+    broken: &Rules,
+)
+    requires role { role < F.ROLES }
+    requires within { b < size_of notes.old }
+    requires judged { (rule : Rule) → has_rule broken.now rule ≡ (F.graph format.now).bad role b block.now.0 rule }
+    ensures notes { NotesLeaf (F.graph format.now) role b block.now.0 (note_in notes.old) (note_in notes.new)
+        ⊎ NotesNone (F.graph format.now) role b block.now.0 (note_in notes.old) (note_in notes.new) }
+    ensures number { size_of notes.new ≡ size_of notes.old }
+{
+    let is_sound = broken.is_empty();
+    let is_tree = format.is_tree(role);
+    let is_leaf = !format.inner_of_any(role, block);
+    if is_sound & is_tree & is_leaf {
+        notes.set_note(b, leaf_note(format, role, block));
+    }
 }

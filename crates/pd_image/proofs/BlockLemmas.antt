@@ -4,7 +4,7 @@ use Rattle.std.specs.Prelude.{slice_get}
 use Rattle.std.proofs.lemmas.List.{map-set, length-set}
 use Rattle.pd_kinds.specs.declared.block.Block.{Block}
 use Rattle.pd_image.specs.Device.{MayChange}
-use Rattle.pd_image.specs.Blocks.{block_bytes}
+use Rattle.pd_image.specs.Step.{block_bytes}
 
 -- the bytes of the blocks, where one was written
 pub block_bytes-set : (blocks : List Block) (b : ℕ) (block : Block)

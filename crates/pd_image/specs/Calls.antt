@@ -1,7 +1,12 @@
 -- The numbered calls of an object in memory, and which of them are set to fail.
-use Rattle.std.specs.Prelude.{◌≡◌, ℕ, ◌+◌, ◌-◌, ◌^◌, ◌==◌, ◌||◌, min, nat_le, Bool, false, List, [], ◌∷◌, ◌++◌, Option, Some, None}
+-- The numbers by which the traits speak of an object's access.
+use Rattle.std.specs.Prelude.{◌≡◌, ℕ, ◌+◌, ◌-◌, ◌^◌, ◌==◌, ◌||◌, min, nat_le, Bool, false, List, [], ◌∷◌, ◌++◌, Option, Some, None, true, is_none, Vec}
 use Rattle.std.specs.List.{list_any}
+use Rattle.std.specs.Option.{option_map}
+use Rattle.std.proofs.Common.{refl, Global}
 use Rattle.pd_image.specs.declared.calls.Calls.{Calls}
+use Rattle.pd_image.specs.declared.calls.Access.{Access}
+use Rattle.pd_image.specs.declared.calls.Access.TheVariants.{Unattached, Attached, Writable, Refused}
 
 -- one more, up to the end of a `u64`
 abbrev pub counted : ℕ → ℕ
@@ -71,3 +76,15 @@ pub record KeepsCalls (old new : Calls) : Type 0 where
   pub made : calls_made new ≡ calls_made old
   pub set : calls_set new ≡ calls_set old
   pub stop : calls_stop new ≡ calls_stop old
+
+-- the number of an access, as the states of the objects outside have it
+abbrev pub access_number : Access → ℕ
+access_number Unattached = 0
+access_number Attached = 1
+access_number Writable = 2
+access_number Refused = 3
+
+-- a path that isn't there isn't told
+pub untold : (path : Option (Vec ℕ Global)) → is_none path ≡ true → option_map (λ (p : Vec ℕ Global). p.items) path ≡ None
+untold None none = refl
+untold (Some path) none = cc

@@ -2,10 +2,11 @@
 
 ghost use Rattle.std.specs.Prelude.{◌≡◌, ◌≤◌, is_ok, not, OnOk, OnErr, if◌then◌else◌};
 ghost use Rattle.pd_kinds.specs.Objects.{CountsFault, Rose};
-ghost use Rattle.pd_image.specs.Calls.{counted, calls_made, calls_failed, calls_stop, is_stopped, next_fails, IsUncalled, CountsCall, SetsToFail, Stops, KeepsCalls};
+ghost use Rattle.pd_image.specs.Calls.{counted, calls_made, calls_failed, calls_stop, is_stopped, next_fails};
+ghost use Rattle.pd_image.specs.Calls.{IsUncalled, CountsCall, SetsToFail, Stops, KeepsCalls};
 
 use crate::Failed;
-use crate::faults::fault;
+use pd_kinds::CheckFault;
 use std::alloc::{AllocError, Global};
 
 /// How many calls were made, which are set to fail, and how many have failed.
@@ -90,4 +91,40 @@ impl Calls {
     {
         fault(&mut self.faults)
     }
+}
+
+// The count of the calls of an object that have failed.
+
+impl From<Failed> for CheckFault {
+    ghost use Rattle.pd_kinds.specs.declared.report.CheckFault.TheVariants.{Device};
+
+    ghost from_gives = { λ _ fault. fault ≡ Device };
+
+    fn from(_failed: Failed) -> CheckFault {
+        CheckFault::Device
+    }
+}
+
+/// Counts a call that failed, up to the end of the count's type.
+pub fn fault(faults: &mut u64) -> Failed
+    ensures count { faults.new ≡ counted faults.old }
+    ensures rose { Rose faults.old faults.new × (faults.old ≤ faults.new) }
+{
+    *faults = faults.saturating_add(1);
+    Failed
+}
+
+// How an object outside is attached.
+
+/// How far an object outside has been attached.
+#[derive(Clone, Copy)]
+pub enum Access {
+    /// `attach` wasn't called yet.
+    Unattached,
+    /// `attach` answered Ok; a device may only be read.
+    Attached,
+    /// `attach` answered Ok, and the device may be written too.
+    Writable,
+    /// `attach` failed.
+    Refused,
 }

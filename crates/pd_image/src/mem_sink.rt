@@ -1,14 +1,13 @@
 //! A sink in memory, which tells what was written.
 
-ghost use Rattle.std.specs.Prelude.{is_none, true, false, None, ◌≡◌, [], is_ok, Some, IsTrue, IsErr, IsSome, OnOk, OnErr, unwrap_or, if◌then◌else◌};
+ghost use Rattle.std.specs.Prelude.{is_none, true, false, None, ◌≡◌, [], is_ok, Some, IsTrue, IsErr};
+ghost use Rattle.std.specs.Prelude.{IsSome, OnOk, OnErr, unwrap_or, if◌then◌else◌};
 ghost use Rattle.std.specs.Option.{option_copied};
 ghost use Rattle.pd_kinds.specs.Objects.{CountsFault, Appends, AppendsFront};
 ghost use Rattle.pd_image.specs.Sink.{AttachesSink, KeepsSink};
-ghost use Rattle.pd_image.specs.Access.{access_number, untold};
-ghost use Rattle.pd_image.specs.Calls.{counted, next_fails, IsUncalled, CountsCall, SetsToFail, KeepsCalls};
+ghost use Rattle.pd_image.specs.Calls.{access_number, untold, counted, next_fails, IsUncalled, CountsCall, SetsToFail, KeepsCalls};
 
-use crate::access::Access;
-use crate::calls::Calls;
+use crate::calls::{Access, Calls};
 use crate::{Failed, Sink};
 use std::alloc::{AllocError, Global};
 
@@ -26,7 +25,7 @@ pub struct MemSink {
 }
 
 impl MemSink {
-    ghost use Rattle.pd_image.specs.MemSink.{mem_sink_state, mem_sink_calls, unattached_sink};
+    ghost use Rattle.pd_image.specs.MemObjects.{mem_sink_state, mem_sink_calls, unattached_sink};
 
     /// A sink to which nothing was written.
     pub fn new(alloc: Global) -> MemSink
@@ -72,7 +71,7 @@ impl MemSink {
 /// A call fails where it is set to and for want of memory, and then does nothing but to count. `attach`
 /// keeps its path first.
 impl Sink for MemSink {
-    ghost use Rattle.pd_image.specs.MemSink.{mem_sink_state, mem_sink_calls, unattached_sink};
+    ghost use Rattle.pd_image.specs.MemObjects.{mem_sink_state, mem_sink_calls};
 
     ghost state = { mem_sink_state };
 
@@ -80,13 +79,15 @@ impl Sink for MemSink {
 
     fn attach(&mut self, path: Option<&str>) -> Result<(), Failed>
         requires { (mem_sink_state self.old).access ≡ 0 }
-        ensures attached { AttachesSink (unwrap_or (option_copied path.entry) []) (is_ok result) (mem_sink_state self.old) (mem_sink_state self.new) }
+        ensures attached { AttachesSink (unwrap_or (option_copied path.entry) []) (is_ok result) (mem_sink_state self.old)
+            (mem_sink_state self.new) }
         ensures told { OnOk result (IsSome (mem_sink_state self.new).path) }
         ensures faults { CountsFault result (mem_sink_state self.old).faults (mem_sink_state self.new).faults }
         ensures set { IsTrue (next_fails (mem_sink_calls self.old)) → IsErr result }
         ensures unset { OnErr result (next_fails (mem_sink_calls self.old) ≡ false → (mem_sink_state self.new).path ≡ None) }
         ensures calls { CountsCall (mem_sink_calls self.old) (mem_sink_calls self.new) }
-        ensures failed { (mem_sink_state self.new).faults ≡ (if is_ok result then (mem_sink_state self.old).faults else counted (mem_sink_state self.old).faults) }
+        ensures failed { (mem_sink_state self.new).faults
+            ≡ (if is_ok result then (mem_sink_state self.old).faults else counted (mem_sink_state self.old).faults) }
     {
         let text = path.unwrap_or("");
         self.access = Access::Refused;
@@ -108,7 +109,8 @@ impl Sink for MemSink {
         ensures nothing { OnErr result ((mem_sink_state self.new).written ≡ (mem_sink_state self.old).written) }
         ensures set { IsTrue (next_fails (mem_sink_calls self.old)) → IsErr result }
         ensures calls { CountsCall (mem_sink_calls self.old) (mem_sink_calls self.new) }
-        ensures failed { (mem_sink_state self.new).faults ≡ (if is_ok result then (mem_sink_state self.old).faults else counted (mem_sink_state self.old).faults) }
+        ensures failed { (mem_sink_state self.new).faults
+            ≡ (if is_ok result then (mem_sink_state self.old).faults else counted (mem_sink_state self.old).faults) }
     {
         self.calls.begin()?;
         if self.written.extend_from_slice(bytes).is_err() {

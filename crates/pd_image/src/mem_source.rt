@@ -1,14 +1,13 @@
 //! A source of text in memory, which tells what is left of it.
 
-ghost use Rattle.std.specs.Prelude.{is_none, true, false, None, ◌≡◌, ◌<◌, ◌≤◌, length, take, drop, min, is_ok, not, Some, IsTrue, IsErr, IsSome, IfOk, OnOk, OnErr, IfSome, if◌then◌else◌};
+ghost use Rattle.std.specs.Prelude.{is_none, true, false, None, ◌≡◌, ◌<◌, ◌≤◌, length, take, drop, min, is_ok, not};
+ghost use Rattle.std.specs.Prelude.{IsTrue, IsErr, IsSome, IfOk, OnOk, OnErr, IfSome, if◌then◌else◌};
 ghost use Rattle.std.specs.Option.{option_copied};
 ghost use Rattle.pd_kinds.specs.Objects.{CountsFault};
-ghost use Rattle.pd_image.specs.Access.{access_number, untold};
-ghost use Rattle.pd_image.specs.Calls.{counted, next_fails, IsUncalled, CountsCall, SetsToFail, KeepsCalls};
+ghost use Rattle.pd_image.specs.Calls.{access_number, untold, counted, next_fails, IsUncalled, CountsCall, SetsToFail, KeepsCalls};
 ghost use Rattle.pd_image.specs.Source.{AttachesSource, KeepsSource, TakesBytes};
 
-use crate::access::Access;
-use crate::calls::Calls;
+use crate::calls::{Access, Calls};
 use crate::{Failed, Source};
 use std::alloc::{AllocError, Global};
 
@@ -33,7 +32,7 @@ pub struct MemSource {
 }
 
 impl MemSource {
-    ghost use Rattle.pd_image.specs.MemSource.{mem_source_state, mem_source_calls, mem_source_piece, unattached_source};
+    ghost use Rattle.pd_image.specs.MemObjects.{mem_source_state, mem_source_calls, mem_source_piece, unattached_source};
 
     /// A source of these bytes, which gives at most `piece` of them a call.
     pub fn of(alloc: Global, bytes: &[u8], piece: usize) -> Result<MemSource, AllocError>
@@ -76,7 +75,7 @@ impl MemSource {
 /// A call fails exactly where it is set to, and then does nothing but to count. `attach` keeps its path
 /// first, and fails for want of memory too.
 impl Source for MemSource {
-    ghost use Rattle.pd_image.specs.MemSource.{mem_source_state, mem_source_calls, mem_source_piece};
+    ghost use Rattle.pd_image.specs.MemObjects.{mem_source_state, mem_source_calls, mem_source_piece};
 
     ghost state = { mem_source_state };
 
@@ -90,7 +89,8 @@ impl Source for MemSource {
         ensures set { IsTrue (next_fails (mem_source_calls self.old)) → IsErr result }
         ensures unset { OnErr result (next_fails (mem_source_calls self.old) ≡ false → (mem_source_state self.new).path ≡ None) }
         ensures calls { CountsCall (mem_source_calls self.old) (mem_source_calls self.new) }
-        ensures failed { (mem_source_state self.new).faults ≡ (if is_ok result then (mem_source_state self.old).faults else counted (mem_source_state self.old).faults) }
+        ensures failed { (mem_source_state self.new).faults
+            ≡ (if is_ok result then (mem_source_state self.old).faults else counted (mem_source_state self.old).faults) }
         ensures piece { mem_source_piece self.new ≡ mem_source_piece self.old }
     {
         self.access = Access::Refused;
@@ -107,33 +107,26 @@ impl Source for MemSource {
         requires attached { (mem_source_state self.old).access ≡ 1 }
         requires room { 0 < length into.old }
         ensures taken { IfOk result (λ n. n ≤ length into.new) }
-        ensures content { IfOk result (λ n. IfSome (mem_source_state self.old).left (TakesBytes n into.new (mem_source_state self.new).left)) }
+        ensures content { IfOk result (λ n. IfSome (mem_source_state self.old).left
+            (TakesBytes n into.new (mem_source_state self.new).left)) }
         ensures failed { OnErr result ((mem_source_state self.new).left ≡ (mem_source_state self.old).left) }
         ensures kept { KeepsSource (mem_source_state self.old) (mem_source_state self.new) }
         ensures faults { CountsFault result (mem_source_state self.old).faults (mem_source_state self.new).faults }
-        ensures exact { IfOk result (λ n. IfSome (mem_source_state self.old).left (λ left. n ≡ min (min (mem_source_piece self.old) (length into.old)) (length left))) }
+        ensures exact { IfOk result (λ n. IfSome (mem_source_state self.old).left
+            (λ left. n ≡ min (min (mem_source_piece self.old) (length into.old)) (length left))) }
         ensures rest { IfOk result (λ n. drop n into.new ≡ drop n into.old) }
         ensures untouched { OnErr result (into.new ≡ into.old) }
         ensures set { is_ok result ≡ not (next_fails (mem_source_calls self.old)) }
         ensures calls { CountsCall (mem_source_calls self.old) (mem_source_calls self.new) }
-        ensures counted { (mem_source_state self.new).faults ≡ (if is_ok result then (mem_source_state self.old).faults else counted (mem_source_state self.old).faults) }
+        ensures counted { (mem_source_state self.new).faults
+            ≡ (if is_ok result then (mem_source_state self.old).faults else counted (mem_source_state self.old).faults) }
         ensures piece { mem_source_piece self.new ≡ mem_source_piece self.old }
     {
         self.calls.begin()?;
-        let n = copy_some(&self.bytes[self.taken..], self.piece, into);
+        let left = &self.bytes[self.taken..];
+        let n = self.piece.min(into.len()).min(left.len());
+        into[..n].copy_from_slice(&left[..n]);
         self.taken += n;
         Ok(n)
     }
-}
-
-/// Copies as many bytes as there are, as there is room for, and as are wanted at most, and answers how
-/// many.
-fn copy_some(from: &[u8], most: usize, into: &mut [u8]) -> usize
-    ensures number { result ≡ min (min most (length into.old)) (length from.now) }
-    ensures front { take result into.new ≡ take result from.now }
-    ensures rest { drop result into.new ≡ drop result into.old }
-{
-    let n = most.min(into.len()).min(from.len());
-    into[..n].copy_from_slice(&from[..n]);
-    n
 }

@@ -1,6 +1,6 @@
 //! A source of a text, and what its calls mean.
 
-ghost use Rattle.std.specs.Prelude.{None, ◌≡◌, ◌<◌, ◌≤◌, length, take, is_ok, OnErr, IfOk, IfSome};
+ghost use Rattle.std.specs.Prelude.{None, ◌≡◌, ◌<◌, ◌≤◌, length, is_ok, OnErr, IfOk, IfSome};
 ghost use Rattle.pd_kinds.specs.Objects.{SourceState, CountsFault};
 ghost use Rattle.pd_image.specs.Source.{AttachesSource, KeepsSource, TakesBytes};
 

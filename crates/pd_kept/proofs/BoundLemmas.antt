@@ -9,17 +9,17 @@ use Rattle.std.proofs.lemmas.List.Sums.{sum_by-cons, sum_by-take-drop}
 use Rattle.pd_kinds.specs.Meaning.{Mapping}
 use Rattle.pd_laid.specs.FoundRoots.{times_of}
 use Rattle.pd_laid.specs.Shape.{Piece, ShapeDevice, device_of, leaf_mappings, own, piece_mappings, shared, uses_of, uses_of_piece}
+use Rattle.pd_laid.proofs.LeafRuns.{all_if_at}
+use Rattle.pd_laid.specs.PoolText.{device_of_part, mappings_of_runs, piece_of_part}
+use Rattle.pd_meaning_thin.specs.declared.joined.Run.{Run}
+use Rattle.pd_meaning_thin.specs.Runs.{spelled}
 use Rattle.pd_restore.proofs.SavedNeedLemmas.{all_append}
-use Rattle.pd_shapes.proofs.LeafRuns.{all_if_at}
-use Rattle.pd_shapes.specs.SharedText.{device_of_part, mappings_of_runs, piece_of_part}
-use Rattle.pd_thin_meaning.specs.declared.joined.Run.{Run}
-use Rattle.pd_thin_meaning.specs.Joined.{spelled}
 use Rattle.pd_salvage.specs.declared.saved_shape.SavedLeaf.{SavedLeaf}
 use Rattle.pd_salvage.specs.declared.saved_shape.SavedPiece.{SavedPiece}
 use Rattle.pd_salvage.specs.declared.saved_shape.SavedPiece.TheVariants.{Own, Shared}
 use Rattle.pd_salvage.specs.declared.saved_shape.ShapedDevice.{ShapedDevice}
 use Rattle.pd_salvage.specs.SavedShape.{device_parts, leaf_parts, piece_parts, runs_of_piece, runs_of_pieces}
-use Rattle.pd_kept.specs.Latest.{own_times}
+use Rattle.pd_kept.specs.Kept.{own_times}
 
 -- no number is above a bound, and the greatest is none where none is
 abbrev pub Below : ℕ → List ℕ → Type 0

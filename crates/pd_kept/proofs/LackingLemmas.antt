@@ -5,10 +5,8 @@ use Rattle.std.proofs.lemmas.Bool.{false≢true}
 use Rattle.std.proofs.lemmas.List.{drop_all, drop_more}
 use Rattle.pd_tree.specs.Search.{lookup}
 use Rattle.pd_salvage.specs.declared.saved_shape.ShapedDevice.{ShapedDevice}
-use Rattle.pd_kept.specs.declared.stored.StoredNumber.{StoredNumber}
-use Rattle.pd_kept.specs.Lacking.{IsBehind, IsLeft, lacks}
-use Rattle.pd_kept.specs.Merging.{IsStoredAt, saved_pair}
-use Rattle.pd_kept.specs.Stored.{AreStored, AscendBelow, pair_of}
+use Rattle.pd_kept.specs.declared.merging.StoredNumber.{StoredNumber}
+use Rattle.pd_kept.specs.Kept.{IsBehind, IsLeft, lacks, IsStoredAt, saved_pair, AreStored, AscendBelow, pair_of}
 use Rattle.pd_kept.proofs.TellingLemmas.{from_less, lookup_here, lookup_other, lookup_past, numbers_at}
 
 -- a stored number of a lesser id is none of these devices'
@@ -19,10 +17,6 @@ lacks_past end least k m (d ∷ saved) stored less ascend =
     let from = ascend.0 in
     ap₂ (λ (a b : Bool). a || b) (ap (λ (o : Option ℕ). is_none o) (lookup_other k m stored d.0 (λ same. omega (arith, same))))
     (lacks_past end (d.0 + 1) k m saved stored (omega arith) ascend.2)
-
-pub left_begun : (devices : List ShapedDevice) (stored : List (ℕ × ℕ)) → AreStored 0 (map saved_pair devices) → AreStored 0 stored
-    → IsLeft (lacks (map saved_pair devices) stored) (map saved_pair devices) stored
-left_begun devices stored saved_ascend ascend = record { next = 0; is = refl; saved_ascend = saved_ascend; stored_ascend = ascend }
 
 module _ (stored : List StoredNumber) (at : ℕ) (d : StoredNumber) (within : at < length stored) (lacking : Bool) (id : ℕ) (saved : List (ℕ × ℕ)) where
   -- a stored number is passed
@@ -45,11 +39,6 @@ module _ (stored : List StoredNumber) (at : ℕ) (d : StoredNumber) (within : at
       let one = numbers_at stored at d within in
       let are = rw one at left.stored_ascend in
       record { left = left; behind = rw one (more, are.1, are.2) }
-
--- none is left
-pub left_over : (stored : List StoredNumber) (at : ℕ) (lacking : Bool) (id : ℕ) (saved : List (ℕ × ℕ)) → length stored ≤ at → IsLeft lacking saved (map pair_of (drop at stored))
-    → IsBehind lacking id saved (map pair_of (drop at stored))
-left_over stored at lacking id saved over left = record { left = left; behind = rw (drop_all at stored over) tt }
 
 -- a device more: it has no number, or the next one is its
 pub lacks_here : (lacking : Bool) (k n : ℕ) (saved stored : List (ℕ × ℕ)) → IsBehind lacking k ((k, n) ∷ saved) stored → (AreStored k stored → AreStored (k + 1) stored) → true ≡ lacking

@@ -4,24 +4,20 @@ use Rattle.std.specs.List.{flat_map, list_any}
 use Rattle.std.specs.Prelude.{fold, is_none}
 use Rattle.std.proofs.lemmas.List.{map-append}
 use Rattle.pd_kinds.specs.Meaning.{Mapping, ThinDevice, ThinPool}
-use Rattle.pd_kinds.specs.ThinSuper.{ThinFields}
+use Rattle.pd_kinds.specs.ThinFormat.{ThinFields}
+use Rattle.pd_grammar.specs.ThinText.{mappings_from, mappings_of}
 use Rattle.pd_laid.specs.FoundRoots.{times_of}
-use Rattle.pd_laid.specs.Salvage.{salvage_from}
+use Rattle.pd_laid.specs.Salvage.{salvage_from, saved_shape_from}
 use Rattle.pd_laid.specs.Shape.{pool_of}
-use Rattle.pd_shapes.specs.SavedShape.{saved_shape_from}
-use Rattle.pd_shapes.specs.SharedText.{device_of_part, mappings_of_runs}
-use Rattle.pd_spells.specs.ThinText.{mappings_from, mappings_of}
+use Rattle.pd_laid.specs.PoolText.{device_of_part, mappings_of_runs}
 use Rattle.pd_answers.specs.KeptLines.{found_mapped}
-use Rattle.pd_answers.specs.NamedRoots.{lacks_details, latest_time, pool_time, saved_time}
-use Rattle.pd_answers.specs.Seen.{raised_time}
-use Rattle.pd_thin_meaning.specs.declared.joined.Run.{Run}
-use Rattle.pd_thin_meaning.specs.Joined.{spelled}
+use Rattle.pd_answers.specs.NamedRepairs.{lacks_details, latest_time, pool_time, saved_time}
+use Rattle.pd_answers.specs.Searches.{raised_time}
+use Rattle.pd_meaning_thin.specs.declared.joined.Run.{Run}
+use Rattle.pd_meaning_thin.specs.Runs.{spelled}
 use Rattle.pd_salvage.specs.SavedShape.{HeldShape, IsSavedShape, device_parts, held_shape, leaf_parts}
-use Rattle.pd_kept.specs.declared.stored.StoredNumber.{StoredNumber}
-use Rattle.pd_kept.specs.Lacking.{lacks}
-use Rattle.pd_kept.specs.Latest.{latest_of_shape, own_times, time_by, times_of_run, times_of_runs}
-use Rattle.pd_kept.specs.Merging.{saved_pair}
-use Rattle.pd_kept.specs.Stored.{pair_of, stored_numbers}
+use Rattle.pd_kept.specs.declared.merging.StoredNumber.{StoredNumber}
+use Rattle.pd_kept.specs.Kept.{lacks, latest_of_shape, own_times, time_by, times_of_run, times_of_runs, saved_pair, pair_of, stored_numbers}
 use Rattle.pd_kept.proofs.BoundLemmas.{Below, below_details, below_greatest, below_until, devices_below, greatest_below, leaves_until, until_below, until_leaves, until_own, until_used}
 use Rattle.pd_kept.proofs.WeighingLemmas.{device_pair, found_is, pairs_are}
 

@@ -1,11 +1,6 @@
-pub mod RangeLines
-pub mod RoomLemmas
-pub mod NumberLemmas
 pub mod TellingLemmas
-pub mod TextLemmas
 pub mod WeighingLemmas
-pub mod QueryLemmas
-pub mod LackingLemmas
-pub mod BoundLemmas
-pub mod LatestLemmas
 pub mod StatesLemmas
+pub mod BoundLemmas
+pub mod LackingLemmas
+pub mod LatestLemmas

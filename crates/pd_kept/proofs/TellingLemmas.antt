@@ -1,19 +1,61 @@
 -- Saved devices and stored numbers, told one after another.
-use Rattle.std.proofs.Common.{◌≡◌, ℕ, ◌+◌, ◌-◌, ◌^◌, ◌<◌, ◌≤◌, true, false, eqb, get_or, List, [], ◌∷◌, ◌++◌, length, map, drop, Option, Some, None, refl, sym, ap, ap₂, subst, ◌∙◌, arith, append_assoc}
+use Rattle.std.proofs.Common.{◌≡◌, ℕ, zero, suc, ◌+◌, ◌-◌, ◌<◌, ◌≤◌, List, [], ◌++◌, refl, ap, ap₂, subst, sym, arith, ◌^◌, true, false, eqb, get_or, ◌∷◌, length, map, drop, Option, Some, None, ◌∙◌, append_assoc, IfSome}
 use Rattle.std.specs.List.{flat_map, range_with_len}
 use Rattle.std.proofs.lemmas.Bool.Decides.{nat_tests}
 use Rattle.std.proofs.lemmas.Grind.{flat_map-append}
 use Rattle.std.proofs.lemmas.List.{append-nil, drop_all, drop_more}
-use Rattle.pd_tree.specs.Search.{lookup}
-use Rattle.pd_salvage.specs.declared.saved_shape.ShapedDevice.{ShapedDevice}
+use Rattle.pd_kinds.specs.Node.{Entry}
+use Rattle.pd_kinds.specs.ThinFormat.{ThinFields}
+use Rattle.pd_laid.specs.Salvage.{salvaged_entries}
 use Rattle.pd_answers.specs.KeptLines.{kept_line, lost_line}
+use Rattle.pd_value.specs.declared.thin.Details.{Details}
+use Rattle.pd_tree.specs.Search.{lookup}
+use Rattle.pd_tree.specs.Cursor.{item_of}
+use Rattle.pd_tree.proofs.NextLemmas.{if_both}
+use Rattle.pd_meaning_thin.specs.Runs.{details_of}
+use Rattle.pd_salvage.specs.declared.saved_shape.ShapedDevice.{ShapedDevice}
+use Rattle.pd_salvage.specs.declared.cursor.SavedCursor.{SavedCursor}
+use Rattle.pd_salvage.specs.Cursor.{saved_least, saved_left}
 use Rattle.pd_kept.specs.declared.kept.KeptDevice.{KeptDevice}
 use Rattle.pd_kept.specs.declared.kept.KeptDevice.TheVariants.{Kept, Lost}
-use Rattle.pd_kept.specs.declared.stored.StoredNumber.{StoredNumber}
-use Rattle.pd_kept.specs.Kept.{line_of}
-use Rattle.pd_kept.specs.Merging.{IsAfterLost, Tells, line_at, line_of_id, lines_at_all, lines_from, saved_pair}
-use Rattle.pd_kept.specs.Stored.{AreStored, AscendBelow, pair_of}
-use Rattle.pd_kept.proofs.RangeLines.{first_line, none_from}
+use Rattle.pd_kept.specs.declared.merging.StoredNumber.{StoredNumber}
+use Rattle.pd_kept.specs.Kept.{line_of, IsAfterLost, Tells, line_at, line_of_id, lines_at_all, lines_from, saved_pair, AreStored, AscendBelow, pair_of, AddsStored, stored_numbers, stored_word}
+
+-- Lines of a range of numbers, most of which have none.
+
+-- those of two functions that say the same from a number on
+pub same_from : (f g : ℕ → List ℕ) (from len : ℕ) → ((n : ℕ) → from ≤ n → f n ≡ g n) → flat_map f (range_with_len from len) ≡ flat_map g (range_with_len from len)
+same_from f g from zero same = refl
+same_from f g from (suc len) same =
+    ap₂ (λ (xs ys : List ℕ). xs ++ ys) (same from (omega arith)) (same_from f g (from + 1) len (λ n after. same n (omega arith)))
+
+-- where none has a line
+pub none_from : (f : ℕ → List ℕ) (from len : ℕ) → ((n : ℕ) → f n ≡ []) → flat_map f (range_with_len from len) ≡ []
+none_from f from zero none = refl
+none_from f from (suc len) none = ap₂ (λ (xs ys : List ℕ). xs ++ ys) (none from) (none_from f (from + 1) len none)
+
+-- where the first line is that of a number behind a gap
+behind_gap : (f g : ℕ → List ℕ) (gap len from : ℕ) → ((n : ℕ) → from ≤ n → n < from + gap → f n ≡ []) → ((n : ℕ) → from + gap < n → f n ≡ g n)
+    → flat_map f (range_with_len from (gap + suc len)) ≡ f (from + gap) ++ flat_map g (range_with_len (from + gap + 1) len)
+behind_gap f g zero len from none same =
+    let one : zero + suc len ≡ suc len = omega arith in
+    let here : from + zero ≡ from = omega arith in
+    rw (one, here) (ap (λ (ys : List ℕ). f from ++ ys) (same_from f g (from + 1) len (λ n after. same n (omega arith))))
+behind_gap f g (suc gap) len from none same =
+    let one : suc gap + suc len ≡ suc (gap + suc len) = omega arith in
+    let next : from + suc gap ≡ from + 1 + gap = omega arith in
+    rw (one, next)
+    (ap₂ (λ (xs ys : List ℕ). xs ++ ys) (none from (omega arith) (omega arith))
+    (behind_gap f g gap len (from + 1) (λ n after before. none n (omega arith) (omega arith)) (λ n after. same n (omega arith))))
+
+pub first_line : (f g : ℕ → List ℕ) (end from k : ℕ) → from ≤ k → k < end → ((n : ℕ) → from ≤ n → n < k → f n ≡ []) → ((n : ℕ) → k < n → f n ≡ g n)
+    → flat_map f (range_with_len from (end - from)) ≡ f k ++ flat_map g (range_with_len (k + 1) (end - (k + 1)))
+first_line f g end from k after before none same =
+    let whole : end - from ≡ (k - from) + suc (end - (k + 1)) = omega arith in
+    let there : from + (k - from) ≡ k = omega arith in
+    subst (λ (len : ℕ). flat_map f (range_with_len from len) ≡ f k ++ flat_map g (range_with_len (k + 1) (end - (k + 1)))) (sym whole)
+    (subst (λ (m : ℕ). flat_map f (range_with_len from ((k - from) + suc (end - (k + 1)))) ≡ f m ++ flat_map g (range_with_len (m + 1) (end - (k + 1)))) there
+    (behind_gap f g (k - from) (end - (k + 1)) from (λ n low high. none n low (omega arith)) (λ n low. same n (omega arith))))
 
 -- what is found in a list whose keys ascend
 pub lookup_past : (end least : ℕ) (items : List (ℕ × ℕ)) (n : ℕ) → AscendBelow end least items → n < least → lookup n items ≡ None
@@ -161,3 +203,49 @@ all_told all told stored after =
     let none : stored ≡ [] = none_at_end (2 ^ 64) stored after.behind in
     sym (append-nil (flat_map line_of told))
     ∙ (ap (λ (ls : List ℕ). flat_map line_of told ++ ls) (sym (ap (lines_from (2 ^ 64) tells.next []) none ∙ lines_over (2 ^ 64) tells.next)) ∙ tells.joined)
+
+-- The stored numbers, one after another.
+
+-- the number in an entry that a cursor gives
+abbrev pub number_of : ℕ × Details → ℕ × ℕ
+number_of item = (item.0, item.1.mapped)
+
+entries_same : (es : List Entry) → map number_of (map (item_of details_of) es) ≡ map (item_of stored_word) es
+entries_same [] = refl
+entries_same (e ∷ es) = ap (λ (items : List (ℕ × ℕ)). (e.key, stored_word e.value) ∷ items) (entries_same es)
+
+-- what was read of an image, and what is left of it
+pub record ReadsNumbers (fields : ThinFields) (image : List (List ℕ)) (stored : List StoredNumber) (entries : SavedCursor Details) : Type 0 where
+  pub all : map pair_of stored ++ map number_of (saved_left 24 details_of image entries) ≡ stored_numbers fields image
+
+pub numbers_begun : (fields : ThinFields) (image : List (List ℕ)) (entries : SavedCursor Details)
+    → saved_left 24 details_of image entries ≡ map (item_of details_of) (salvaged_entries 24 fields.meta_map.blocks image fields.details_root) → ReadsNumbers fields image [] entries
+unfolding stored_numbers
+numbers_begun fields image entries left =
+    record { all = ap (map number_of) left ∙ entries_same (salvaged_entries 24 fields.meta_map.blocks image fields.details_root) }
+
+-- one more
+pub number_ascends : (stored new : List StoredNumber) (old now : SavedCursor Details) (id mapped : ℕ) → saved_least old ≤ id → saved_least now ≡ id + 1 → AddsStored id mapped stored new
+    → ((rest : List (ℕ × ℕ)) → AreStored (saved_least old) rest → AreStored 0 (map pair_of stored ++ rest)) → (rest : List (ℕ × ℕ)) → AreStored (saved_least now) rest → AreStored 0 (map pair_of new ++ rest)
+number_ascends stored new old now id mapped from step adds ascend rest are =
+    rw (adds.added, append_assoc (map pair_of stored) ((id, mapped) ∷ []) rest) (ascend ((id, mapped) ∷ rest) (from, adds.fits, rw step at are))
+
+pub number_told : (held : Option (List (List ℕ))) (fields : ThinFields) (stored new : List StoredNumber) (old now : SavedCursor Details) (id : ℕ) (details : Details)
+    → AddsStored id details.mapped stored new → IfSome held (λ image. ReadsNumbers fields image stored old)
+    → IfSome held (λ image. saved_left 24 details_of image old ≡ (id, details) ∷ saved_left 24 details_of image now) → IfSome held (λ image. ReadsNumbers fields image new now)
+number_told held fields stored new old now id details adds told next =
+    if_both held
+    (λ image held_is (is : ReadsNumbers fields image stored old) comes. record {
+      all = rw (adds.added, append_assoc (map pair_of stored) ((id, details.mapped) ∷ []) (map number_of (saved_left 24 details_of image now)))
+          (ap (λ (items : List (ℕ × Details)). map pair_of stored ++ map number_of items) (sym comes) ∙ is.all);
+    })
+    told next
+
+-- the end
+pub numbers_over : (held : Option (List (List ℕ))) (fields : ThinFields) (stored : List StoredNumber) (old now : SavedCursor Details) → IfSome held (λ image. ReadsNumbers fields image stored old)
+    → IfSome held (λ image. (saved_left 24 details_of image old ≡ []) × (saved_left 24 details_of image now ≡ [])) → IfSome held (λ image. map pair_of stored ≡ stored_numbers fields image)
+numbers_over held fields stored old now told ends =
+    if_both held
+    (λ image held_is (is : ReadsNumbers fields image stored old) (none : (saved_left 24 details_of image old ≡ []) × (saved_left 24 details_of image now ≡ [])).
+    sym (append-nil (map pair_of stored)) ∙ (ap (λ (items : List (ℕ × Details)). map pair_of stored ++ map number_of items) (sym none.0) ∙ is.all))
+    told ends

@@ -1,23 +1,21 @@
-//! The times of a pool that is saved by a superblock without one.
+//! The times of a pool that is saved by a superblock without one (`thin_repair`).
 
-ghost use Rattle.std.specs.Prelude.{◌≡◌, ◌++◌, ◌^◌, ◌≤◌, ℕ, List, max, min, map, fold, IfOk, IfSome};
+ghost use Rattle.std.specs.Prelude.{◌≡◌, ◌++◌, ◌^◌, ◌≤◌, ℕ, List, max, map, fold, IfOk, IfSome, Bool, ◌<◌, drop};
 ghost use Rattle.std.specs.List.{flat_map};
+ghost use Rattle.pd_answers.specs.NamedRepairs.{pool_time, saved_time};
+ghost use Rattle.pd_answers.specs.Searches.{raised_time};
 ghost use Rattle.pd_image.specs.Device.{IsAttached, OnlyReads};
-ghost use Rattle.pd_answers.specs.NamedRoots.{pool_time, saved_time};
-ghost use Rattle.pd_answers.specs.Seen.{raised_time};
-ghost use Rattle.pd_salvage.specs.Faults.{CountsSalvage};
-ghost use Rattle.pd_kept.specs.Latest.{latest_of_shape, own_times, time_by, times_of_run, times_of_runs};
-ghost use Rattle.pd_kept.specs.Stored.{AreStored, pair_of};
+ghost use Rattle.pd_salvage.specs.Saved.{CountsSalvage};
+ghost use Rattle.pd_kept.specs.Kept.{latest_of_shape, own_times, time_by, times_of_run, times_of_runs};
+ghost use Rattle.pd_kept.specs.Kept.{AreStored, pair_of, IsBehind, IsLeft, lacks, saved_pair};
 
-use crate::lacking::lacks_details;
-use crate::stored::{StoredNumber, read_stored};
+use crate::merging::{StoredNumber, read_stored, stored_at};
 use pd_image::Device;
 use pd_kinds::ThinSuper;
-use pd_runs::PackedRuns;
+use pd_laws_shapes::saved_shapes_mean_what_is_saved;
+use pd_meaning_thin::{PackedRuns, Run};
 use pd_salvage::{SalvageFault, SavedShape, ShapedDevice};
 use pd_salvage_shapes::salvage_shape;
-use pd_saved_shapes::saved_shapes_mean_what_is_saved;
-use pd_thin_meaning::Run;
 use std::alloc::Global;
 
 /// The greatest time that a mapping can have, which has 24 bits for it. A pool's time isn't raised past it.
@@ -132,4 +130,34 @@ fn later_of(latest: u32, run: Run) -> u32
         return latest;
     }
     latest.max(run.time)
+}
+
+// Whether a device that is saved has lost its details (`thin_repair --dry-run`).
+
+/// Whether one of these devices isn't among those that have details. Both ascend by their ids.
+pub(crate) fn lacks_details(devices: &[ShapedDevice], stored: &[StoredNumber]) -> bool
+    requires saved { AreStored 0 (map saved_pair devices.now) }
+    requires stored { AreStored 0 (map pair_of stored.now) }
+    ensures { result ≡ lacks (map saved_pair devices.now) (map pair_of stored.now) }
+{
+    let mut at = 0;
+    for device in devices {
+        at = behind_lesser(stored, at, device.id);
+        if stored_at(stored, at, device.id).is_none() {
+            return true;
+        }
+    }
+    false
+}
+
+/// The first place from one on that isn't of a lesser id.
+fn behind_lesser(stored: &[StoredNumber], from: usize, id: u64) -> usize
+    ensures { (lacking : Bool) (saved : List (ℕ × ℕ)) → IsLeft lacking saved (map pair_of (drop from stored.now)) → AreStored id saved
+        → IsBehind lacking id saved (map pair_of (drop result stored.now)) }
+{
+    let mut at = from;
+    while at < stored.len() && stored[at].id < id {
+        at += 1;
+    }
+    at
 }

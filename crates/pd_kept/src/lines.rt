@@ -1,10 +1,10 @@
-//! The text of what a repair would keep.
+//! The text of what a repair would keep (`thin_repair --dry-run`).
 
 ghost use Rattle.std.specs.Prelude.{◌≡◌, ◌+◌, ◌≤◌, ◌++◌, length, OnOk};
 ghost use Rattle.std.specs.List.{flat_map};
 ghost use Rattle.pd_kinds.specs.Objects.{CountsFault, Appends, AppendsFront};
-ghost use Rattle.pd_image.specs.Sink.{KeepsSink};
 ghost use Rattle.pd_answers.specs.KeptLines.{kept_line, lost_line, mapped_word, told_text};
+ghost use Rattle.pd_image.specs.Sink.{KeepsSink};
 ghost use Rattle.pd_lines.specs.Printer.{printing};
 ghost use Rattle.pd_lines.specs.Printing.{Prints};
 ghost use Rattle.pd_kept.specs.Kept.{line_of, last_line, told_of};

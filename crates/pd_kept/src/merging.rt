@@ -1,15 +1,18 @@
-//! The saved devices and the stored numbers, in one list.
+//! The saved devices and the stored numbers, in one list (`thin_repair --dry-run`).
 
-ghost use Rattle.std.specs.Prelude.{◌≡◌, ◌<◌, ℕ, List, ◌∷◌, drop, length, map, IfOk, IfSome};
+ghost use Rattle.std.specs.Prelude.{◌≡◌, ◌<◌, ℕ, List, ◌∷◌, drop, length, map, IfOk, IfSome, ◌≤◌, OnOk};
 ghost use Rattle.std.specs.List.{flat_map};
+ghost use Rattle.pd_image.specs.Device.{IsAttached, OnlyReads};
+ghost use Rattle.pd_salvage.specs.Saved.{CountsSalvage};
 ghost use Rattle.pd_kept.specs.declared.kept.KeptDevice.TheVariants.{Kept};
-ghost use Rattle.pd_kept.specs.Kept.{line_of};
-ghost use Rattle.pd_kept.specs.Merging.{IsAfterLost, IsStoredAt, Tells, lines_at_all, saved_pair};
-ghost use Rattle.pd_kept.specs.Stored.{AreStored, pair_of};
+ghost use Rattle.pd_kept.specs.Kept.{line_of, IsAfterLost, IsStoredAt, Tells, lines_at_all, saved_pair};
+ghost use Rattle.pd_kept.specs.Kept.{AreStored, pair_of, AddsStored, stored_numbers};
 
 use crate::kept::KeptDevice;
-use crate::stored::StoredNumber;
-use pd_salvage::ShapedDevice;
+use pd_image::Device;
+use pd_kinds::ThinSuper;
+use pd_salvage::{SalvageFault, SavedCursor, ShapedDevice};
+use pd_value::Details;
 use std::alloc::{AllocError, Global};
 
 /// The end of all ids.
@@ -42,7 +45,8 @@ fn add_device(
     stored: &[StoredNumber],
     from: usize,
 ) -> Result<usize, AllocError>
-    ensures { (all : List ℕ) (saved : List (ℕ × ℕ)) → Tells all merged.old.items (saved_pair device.now ∷ saved) (map pair_of (drop from stored.now))
+    ensures { (all : List ℕ) (saved : List (ℕ × ℕ))
+        → Tells all merged.old.items (saved_pair device.now ∷ saved) (map pair_of (drop from stored.now))
         → IfOk result (λ at. Tells all merged.new.items saved (map pair_of (drop at stored.now))) }
 {
     let at = add_lost(merged, stored, from, device.id as u128)?;
@@ -87,7 +91,8 @@ fn add_lost(
     from: usize,
     end: u128,
 ) -> Result<usize, AllocError>
-    ensures { (all : List ℕ) (saved : List (ℕ × ℕ)) → Tells all merged.old.items saved (map pair_of (drop from stored.now)) → AreStored end saved
+    ensures { (all : List ℕ) (saved : List (ℕ × ℕ))
+        → Tells all merged.old.items saved (map pair_of (drop from stored.now)) → AreStored end saved
         → IfOk result (λ at. IsAfterLost all end saved merged.new.items (map pair_of (drop at stored.now))) }
 {
     let mut at = from;
@@ -103,4 +108,45 @@ fn add_lost(
         at += 1;
     }
     Ok(at)
+}
+
+// The numbers of mappings that the details of devices say (`thin_repair --dry-run`).
+
+/// How many mappings the details of a device say that it has.
+#[derive(Clone, Copy)]
+pub(crate) struct StoredNumber {
+    /// The number of the device.
+    pub(crate) id: u64,
+    /// How many mappings.
+    pub(crate) mapped: u64,
+}
+
+/// Those of all details that are saved of the pool with this superblock, by ascending id.
+pub(crate) fn read_stored<D: Device>(
+    alloc: Global,
+    dev: &mut D,
+    s: &ThinSuper,
+) -> Result<Vec<StoredNumber>, SalvageFault>
+    requires attached { IsAttached (D.state dev.old) }
+    requires within { s.now.meta_map.blocks ≤ (D.state dev.old).blocks }
+    ensures ascend { IfOk result (λ stored. AreStored 0 (map pair_of stored.items)) }
+    ensures told { IfOk result (λ stored. IfSome (D.state dev.old).held (λ image. map pair_of stored.items ≡ stored_numbers s.now image)) }
+    ensures kept { OnlyReads (D.state dev.old) (D.state dev.new) }
+    ensures faults { CountsSalvage result (D.state dev.old).faults (D.state dev.new).faults }
+{
+    let nr = s.meta_map.blocks;
+    let mut entries: SavedCursor<Details> = SavedCursor::start(alloc, nr, s.details_root)?;
+    let mut stored = Vec::new(alloc);
+    while let Some((id, details)) = entries.next(dev)? {
+        add_stored(&mut stored, id, details.mapped)?;
+    }
+    Ok(stored)
+}
+
+/// Adds the number of a device.
+fn add_stored(stored: &mut Vec<StoredNumber>, id: u64, mapped: u64) -> Result<(), AllocError>
+    ensures { OnOk result (AddsStored id mapped stored.old.items stored.new.items) }
+{
+    stored.push(StoredNumber { id, mapped })?;
+    Ok(())
 }

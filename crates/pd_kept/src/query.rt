@@ -1,17 +1,16 @@
-//! What a repair of a pool would keep, as it is asked for.
+//! What a repair of a pool would keep, as it is asked for (`thin_repair --dry-run`).
 
-ghost use Rattle.std.specs.Prelude.{◌≡◌, ◌≢◌, [], None, Some, IfOk, IfSome};
+ghost use Rattle.std.specs.Prelude.{◌≡◌, ◌≢◌, [], None, IfOk, IfSome};
 ghost use Rattle.pd_kinds.specs.declared.kind.Kind.TheVariants.{Thin};
 ghost use Rattle.pd_kinds.specs.declared.kind.Stage.TheVariants.{Super};
 ghost use Rattle.pd_kinds.specs.Stages.{faults};
 ghost use Rattle.pd_image.specs.Device.{IsAttached, OnlyReads};
-ghost use Rattle.pd_query.specs.Failing.{StartFails};
+ghost use Rattle.pd_query.specs.Query.{StartFails};
 ghost use Rattle.pd_repair.specs.Repaired.{IsSoundSuper};
-ghost use Rattle.pd_kept.specs.Query.{untaken_of};
+ghost use Rattle.pd_kept.specs.States.{untaken_of};
 
-use crate::kept::Kept;
+use crate::kept::{Kept, kept_by_repair};
 use crate::lines::put_kept;
-use crate::weighing::kept_by_repair;
 use pd_image::{Device, Sink};
 use pd_kinds::ThinSuper;
 use pd_query::{Query, QueryFault};

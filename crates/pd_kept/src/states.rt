@@ -1,26 +1,24 @@
 //! What a repair without a superblock would keep: the states to choose from, and what is kept of the first one.
+//! Serves `thin_repair --dry-run`.
 
 ghost use Rattle.std.specs.Prelude.{◌≡◌, ◌^◌, ◌≤◌, ◌++◌, IfOk, IfSome, OnOk, length, map, min};
 ghost use Rattle.std.specs.List.{AllByRecursion, flat_map};
 ghost use Rattle.std.specs.Option.{option_map};
 ghost use Rattle.pd_kinds.specs.Objects.{CountsFault, Appends, AppendsFront};
 ghost use Rattle.pd_kinds.specs.declared.limits.TheConstants.{MAX_META_BLOCKS};
+ghost use Rattle.pd_laid.specs.FoundRoots.{lost_graph};
+ghost use Rattle.pd_answers.specs.NamedRepairs.{text_of_states, states};
 ghost use Rattle.pd_image.specs.Device.{IsAttached, OnlyReads};
 ghost use Rattle.pd_image.specs.Sink.{KeepsSink};
-ghost use Rattle.pd_laid.specs.FoundRoots.{lost_graph};
 ghost use Rattle.pd_lines.specs.Printer.{printing};
 ghost use Rattle.pd_lines.specs.Printing.{Prints};
-ghost use Rattle.pd_answers.specs.NamedRepairs.{text_of_states};
-ghost use Rattle.pd_answers.specs.States.{states};
-ghost use Rattle.pd_salvage.specs.Faults.{CountsSalvage};
-ghost use Rattle.pd_scan.specs.declared.states.State.{State as FoundState};
-ghost use Rattle.pd_scan.specs.Roots.{AreInside};
-ghost use Rattle.pd_scan.specs.States.{HasDevices, state_roots};
+ghost use Rattle.pd_salvage.specs.Saved.{CountsSalvage};
 ghost use Rattle.pd_kept.specs.States.{counts_words, found_line, latest_words, looked_text, roots_words};
+ghost use Rattle.pd_scan.specs.declared.states.State.{State as FoundState};
+ghost use Rattle.pd_scan.specs.Pairs.{AreInside, HasDevices, state_roots};
 
-use crate::kept::Kept;
+use crate::kept::{Kept, kept_by_repair};
 use crate::lines::print_kept;
-use crate::weighing::kept_by_repair;
 use pd_image::{Device, Failed, Sink};
 use pd_kinds::{CheckFault, MAX_META_BLOCKS};
 use pd_lines::{Printer, TextBuffer};
@@ -54,7 +52,8 @@ pub fn look_for_states<D: Device>(
     requires attached { IsAttached (D.state dev.old) }
     requires data { data_blocks ≤ 2 ^ 40 }
     ensures told { IfOk result (λ looked. IfSome (D.state dev.old).held (λ image. option_map looked_text looked
-        ≡ text_of_states image (record { transaction = transaction; block_size = block_size; blocks = data_blocks }) (states (lost_graph image data_blocks) image))) }
+        ≡ text_of_states image (record { transaction = transaction; block_size = block_size; blocks = data_blocks })
+        (states (lost_graph image data_blocks) image))) }
     ensures kept { OnlyReads (D.state dev.old) (D.state dev.new) }
     ensures faults { CountsSalvage result (D.state dev.old).faults (D.state dev.new).faults }
 {
@@ -83,9 +82,12 @@ fn states_of<D: Device>(
     data_blocks: u64,
 ) -> Result<Vec<State>, SalvageFault>
     requires attached { IsAttached (D.state dev.old) }
-    ensures found { IfOk result (λ found. IfSome (D.state dev.old).held (λ image. map state_roots found.items ≡ states (lost_graph image data_blocks) image)) }
-    ensures devices { IfOk result (λ found. IfSome (D.state dev.old).held (λ image. AllByRecursion (HasDevices (lost_graph image data_blocks) image) found.items)) }
-    ensures inside { IfOk result (λ found. AllByRecursion (λ (s : FoundState). AreInside (min (D.state dev.old).blocks MAX_META_BLOCKS) s.roots) found.items) }
+    ensures found { IfOk result (λ found. IfSome (D.state dev.old).held
+        (λ image. map state_roots found.items ≡ states (lost_graph image data_blocks) image)) }
+    ensures devices { IfOk result (λ found. IfSome (D.state dev.old).held
+        (λ image. AllByRecursion (HasDevices (lost_graph image data_blocks) image) found.items)) }
+    ensures inside { IfOk result (λ found. AllByRecursion
+        (λ (s : FoundState). AreInside (min (D.state dev.old).blocks MAX_META_BLOCKS) s.roots) found.items) }
     ensures kept { OnlyReads (D.state dev.old) (D.state dev.new) }
     ensures faults { CountsSalvage result (D.state dev.old).faults (D.state dev.new).faults }
 {

@@ -1,16 +1,19 @@
 -- Laws of written superblocks: the head reads back, and each field beside it stays.
-use Rattle.std.proofs.Common.{◌≡◌, ◌⊎◌, inl, inr, ℕ, ◌+◌, ◌≤◌, Bool, true, false, ◌&&◌, ◌==◌, List, [], ◌∷◌, length, take, drop, refl, ap, sym, ◌∙◌, arith, lit<, eq-eqb}
+use Rattle.std.proofs.Common.{◌≡◌, ◌⊎◌, inl, inr, ℕ, ◌+◌, ◌≤◌, Bool, true, false, ◌&&◌, ◌==◌, List, [], ◌∷◌, length, take, drop, refl, ap, sym, ◌∙◌, arith, lit<, eq-eqb, zero, suc, ◌<◌, Some, slice_set, add-one}
 use Rattle.std.proofs.lemmas.Bool.{and_parts}
+use Rattle.std.specs.List.{slice_get}
+use Rattle.std.proofs.lemmas.List.{get_or-set_other}
+use Rattle.std.proofs.lemmas.Grind.{get_or-set_at}
 use Rattle.pd_kinds.specs.declared.kind.Kind.{Kind}
 use Rattle.pd_kinds.specs.declared.kind.Kind.TheVariants.{Thin, Cache, Era}
 use Rattle.pd_kinds.specs.declared.rule.Rule.{Rule}
-use Rattle.pd_kinds.specs.RuleSet.{Test, failing, alone}
-use Rattle.pd_kinds.specs.Field.{Row, DoFit, bytes_at, le, put, put_bytes, written, zeros}
-use Rattle.pd_kinds.specs.Checksum.{checksum, has_checksum, sealed}
+use Rattle.pd_kinds.specs.Rule.{Test, failing, alone}
+use Rattle.pd_kinds.specs.Field.{Row, DoFit, bytes_at, le, put, put_bytes, written, zeros, checksum, has_checksum, sealed}
 use Rattle.pd_kinds.specs.Super.{head_rows, is_super_of, magic_of, salt_of, super_block, super_rules}
 use Rattle.pd_kinds.proofs.FieldLemmas.{drop-put, le-put_other}
-use Rattle.pd_kinds.proofs.WrittenLemmas.{is_beside, length-written, length-zeros, length-written_zeros, drop-put_bytes, drop-sealed, le-put_bytes_other, put_bytes_read}
-use Rattle.pd_kinds.proofs.TableLemmas.{are_apart, are_beside, numbers_at, values_of, le-written_beside, on_a_side, table_read}
+use Rattle.pd_kinds.proofs.WrittenLemmas.{is_beside, length-written, length-zeros, length-written_zeros, drop-put_bytes, drop-sealed, le-put_bytes_other, put_bytes_read, are_apart, are_beside, numbers_at, values_of, le-written_beside, on_a_side, table_read}
+use Rattle.pd_kinds.specs.Graph.{edge_of}
+use Rattle.pd_kinds.specs.Edges.{edge_in, edges_down}
 
 -- a field as a row, whatever its number
 abbrev place_of : ℕ → ℕ → Row
@@ -143,3 +146,27 @@ pub fields_read : (kind : Kind) (uuid : List ℕ) (rows : List Row) → length u
 fields_read kind uuid rows len behind apart fit =
     numbers-super_block kind uuid (written zeros rows) rows (length-written_zeros rows) len behind
     ∙ table_read zeros rows length-zeros apart fit
+
+-- Edges kept with the last one first.
+
+-- their number
+pub length-down : (items : List (ℕ × ℕ)) (n : ℕ) → n ≡ length (edges_down items n)
+length-down items zero = refl
+length-down items (suc n) = ap suc (length-down items n)
+
+-- one more
+down_before : (items : List (ℕ × ℕ)) (n k : ℕ) (item : ℕ × ℕ) → n ≤ k → edges_down (slice_set items k item) n ≡ edges_down items n
+down_before items zero k item small = refl
+down_before items (suc n) k item small =
+    rw (get_or-set_other items k n item (0, 0) (λ same. omega arith), down_before items n k item (omega arith)) refl
+
+pub down_more : (items : List (ℕ × ℕ)) (n : ℕ) (item : ℕ × ℕ) → n < length items
+    → edges_down (slice_set items n item) (n + 1) ≡ edge_of item.0 item.1 ∷ edges_down items n
+down_more items n item room =
+    rw (add-one, get_or-set_at items n n item (0, 0) refl room, down_before items n n item (omega arith)) refl
+
+-- each of them
+pub down_found : (items : List (ℕ × ℕ)) (n i k : ℕ) → k + (i + 1) ≡ n → slice_get (edges_down items n) i ≡ Some (edge_in items k)
+down_found items zero i k same = absurd (omega arith)
+down_found items (suc n) zero k same = let e : n ≡ k = omega arith in rw e refl
+down_found items (suc n) (suc i) k same = down_found items n i k (omega arith)

@@ -3,11 +3,10 @@
 -- 24 bytes, then words of one size.
 use Rattle.std.specs.Prelude.{ℕ, ◌+◌, ◌*◌, ◌/◌, Bool, ◌==◌, ◌||◌, not, nat_lt, if◌then◌else◌, List, [], ◌∷◌, length}
 use Rattle.pd_kinds.specs.declared.rule.Rule.{Rule}
-use Rattle.pd_kinds.specs.declared.rule.Rule.TheVariants as r
-use Rattle.pd_kinds.specs.Field.{Row, le, written, zeros}
-use Rattle.pd_kinds.specs.Checksum.{has_checksum, sealed}
-use Rattle.pd_kinds.specs.RuleSet.{Test, failing, alone}
+use Rattle.pd_kinds.specs.Field.{Row, le, written, zeros, has_checksum, sealed}
+use Rattle.pd_kinds.specs.Rule.{Test, failing, alone}
 use Rattle.pd_kinds.specs.Node.{puts}
+use Rattle.pd_kinds.specs.declared.rule.Rule.TheVariants as r
 
 -- the salt of an array block's checksum
 abbrev pub array_salt : ℕ

@@ -6,12 +6,11 @@ use Rattle.std.specs.Prelude.{ℕ, ◌+◌, ◌*◌, ◌/◌, ◌%◌, Bool, ◌
 use Rattle.std.specs.List.{range_with_len, list_any}
 use Rattle.std.specs.Int.{bit_at}
 use Rattle.pd_kinds.specs.declared.rule.Rule.{Rule}
-use Rattle.pd_kinds.specs.declared.rule.Rule.TheVariants as r
-use Rattle.pd_kinds.specs.Field.{le, put, zeros}
-use Rattle.pd_kinds.specs.Checksum.{has_checksum, sealed}
-use Rattle.pd_kinds.specs.RuleSet.{Test, failing, alone}
-use Rattle.pd_kinds.specs.Edge.{is_outside}
+use Rattle.pd_kinds.specs.Field.{le, put, zeros, has_checksum, sealed}
+use Rattle.pd_kinds.specs.Rule.{Test, failing, alone}
+use Rattle.pd_kinds.specs.Graph.{is_outside}
 use Rattle.pd_kinds.specs.Node.{puts}
+use Rattle.pd_kinds.specs.declared.rule.Rule.TheVariants as r
 
 -- the salts of the two checksums
 abbrev pub bitmap_salt : ℕ

@@ -1,7 +1,7 @@
 -- How a call ends that has no answer where memory is wanting, or a device failed.
 use Rattle.std.specs.Prelude.{◌≡◌, ℕ, ◌≤◌, Result, Ok, Err}
-use Rattle.pd_kinds.specs.declared.check_fault.CheckFault.{CheckFault}
-use Rattle.pd_kinds.specs.declared.check_fault.CheckFault.TheVariants.{Memory, Device}
+use Rattle.pd_kinds.specs.declared.report.CheckFault.{CheckFault}
+use Rattle.pd_kinds.specs.declared.report.CheckFault.TheVariants.{Memory, Device}
 use Rattle.pd_kinds.specs.Objects.{Rose}
 
 -- the device's count of faults rose where the call says that the device failed, and else stayed

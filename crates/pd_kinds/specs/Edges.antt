@@ -1,6 +1,6 @@
 -- The edges of a superblock, kept with the last one first.
 use Rattle.std.specs.Prelude.{ℕ, zero, suc, List, [], ◌∷◌, slice_index_or}
-use Rattle.pd_kinds.specs.Edge.{Edge, edge_of}
+use Rattle.pd_kinds.specs.Graph.{Edge, edge_of}
 
 -- the edge at this place, and the first so many, the latest first
 abbrev pub edge_in : List (ℕ × ℕ) → ℕ → Edge

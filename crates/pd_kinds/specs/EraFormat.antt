@@ -3,18 +3,16 @@
 -- superblock's fields and rules, and what a block is in each role.
 use Rattle.std.specs.Prelude.{ℕ, ◌/◌, ◌%◌, ◌^◌, Bool, ◌==◌, ◌&&◌, not, nat_lt, List, [], ◌∷◌, ◌++◌}
 use Rattle.pd_kinds.specs.declared.kind.Kind.TheVariants.{Era}
-use Rattle.pd_kinds.specs.declared.era_super.EraSuper.{EraSuper}
+use Rattle.pd_kinds.specs.declared.superblocks.EraSuper.{EraSuper}
 use Rattle.pd_kinds.specs.declared.rule.Rule.{Rule}
-use Rattle.pd_kinds.specs.declared.rule.Rule.TheVariants as r
 use Rattle.pd_kinds.specs.Field.{Row, bytes_at, le, rows_at, written, zeros}
-use Rattle.pd_kinds.specs.RuleSet.{Test}
-use Rattle.pd_kinds.specs.Super.{super_block, super_rules}
-use Rattle.pd_kinds.specs.EraRoles as era_role
-use Rattle.pd_kinds.specs.SpaceMap.{map_table, map_numbers}
-use Rattle.pd_kinds.specs.Edge.{Edge, optional_edge, has_edge_outside}
-use Rattle.pd_kinds.specs.Limits.{is_meta_size_bad}
-use Rattle.pd_kinds.specs.Graph.{Graph}
+use Rattle.pd_kinds.specs.Rule.{Test}
+use Rattle.pd_kinds.specs.Super.{super_block, super_rules, map_table, map_numbers}
+use Rattle.pd_kinds.specs.Graph.{Edge, optional_edge, has_edge_outside, Graph}
+use Rattle.pd_kinds.specs.Image.{is_meta_size_bad}
 use Rattle.pd_kinds.specs.Layout.{Layout, copy, tree, bitmap, index, array, plain_tree, tree_to, layouts, graph_of}
+use Rattle.pd_kinds.specs.declared.rule.Rule.TheVariants as r
+use Rattle.pd_kinds.specs.EraRoles as era_role
 
 -- the fields of an era superblock, but for the checksum, the place and the magic
 abbrev pub EraFields : Type 0

@@ -1,9 +1,9 @@
 -- The order of faults: metadata blocks before data blocks, then by block, then by rule.
 use Rattle.std.specs.Prelude.{◌≡◌, ◌⊎◌, ℕ, ◌<◌, List, [], ◌∷◌}
 use Rattle.std.specs.List.{AllByRecursion}
-use Rattle.pd_kinds.specs.declared.fault.Fault.{Fault}
-use Rattle.pd_kinds.specs.declared.fault.Space.{Space}
-use Rattle.pd_kinds.specs.declared.fault.Space.TheVariants.{Meta, DataBlock}
+use Rattle.pd_kinds.specs.declared.rule.Fault.{Fault}
+use Rattle.pd_kinds.specs.declared.rule.Space.{Space}
+use Rattle.pd_kinds.specs.declared.rule.Space.TheVariants.{Meta, DataBlock}
 use Rattle.pd_kinds.specs.Rule.{number_of}
 
 -- the place of a space in the order

@@ -1,11 +1,32 @@
 -- Trusted base.
 -- What a walk sees of a format: a block is looked at in a role, and names other blocks, each with a
 -- role. All that is said of walks, of order and of references is said over any such record.
-use Rattle.std.specs.Prelude.{ℕ, zero, suc, ◌+◌, ◌*◌, ◌/◌, ◌%◌, Bool, ◌==◌, ◌&&◌, ◌||◌, List, [], ◌∷◌, map, filter, count_by}
-use Rattle.std.specs.List.{list_any, range_with_len, flat_map, slice_get}
+-- What a block names: other blocks, each in a role.
+-- Trees over a graph: how deep they are, and which keys stand below a node.
+use Rattle.std.specs.Prelude.{ℕ, Bool, ◌==◌, ◌||◌, not, nat_lt, if◌then◌else◌, List, [], ◌∷◌, zero, suc, ◌+◌, ◌*◌, ◌/◌, ◌%◌, ◌&&◌, map, filter, count_by, true, length, Option, Some, None}
+use Rattle.std.specs.List.{list_any, range_with_len, flat_map, slice_get, list_all}
 use Rattle.std.specs.Option.{unwrap_or}
 use Rattle.pd_kinds.specs.declared.rule.Rule.{Rule}
-use Rattle.pd_kinds.specs.Edge.{Edge}
+
+-- an edge: the role in which a block is named, and the block
+pub record Edge : Type 0 where
+  pub role : ℕ
+  pub block : ℕ
+
+abbrev pub edge_of : ℕ → ℕ → Edge
+edge_of role block = record { role = role; block = block }
+
+-- an edge that 0 leaves out
+abbrev pub optional_edge : ℕ → ℕ → List Edge
+optional_edge role block = if block == 0 then [] else edge_of role block ∷ []
+
+-- whether a block lies outside the metadata: it isn't from 1 to nr - 1
+abbrev pub is_outside : ℕ → ℕ → Bool
+is_outside nr block = (block == 0) || not (nat_lt block nr)
+
+-- whether an edge names a block outside the metadata
+unfoldable pub has_edge_outside : ℕ → List Edge → Bool
+has_edge_outside nr edges = list_any (λ (edge : Edge). is_outside nr edge.block) edges
 
 -- a format as it is walked: each function takes a role, the place of a block, and its bytes
 pub record Graph : Type 0 where
@@ -93,3 +114,45 @@ meta_count graph image b = count_by (λ r. r == b) (references graph image)
 -- how often a data block is referred to
 unfoldable pub data_count : Graph → List (List ℕ) → ℕ → ℕ
 data_count graph image d = count_by (λ r. r == d) (flat_map (data_refs_of graph image) (nodes graph image))
+
+-- the children of an inner node; other blocks have none
+unfoldable pub children : Graph → List (List ℕ) → ℕ → List ℕ
+children graph image p = if is_inner_pair graph image p then next graph image p else []
+
+-- whether a chain of so many inner edges starts at the pair
+unfoldable pub has_chain : (ℕ → List ℕ) → ℕ → ℕ → Bool
+has_chain down zero p = true
+has_chain down (suc j) p = list_any (has_chain down j) (down p)
+
+-- a pair is deep where a chain of 64 inner edges starts at it
+unfoldable pub is_deep : Graph → List (List ℕ) → ℕ → Bool
+is_deep graph image p = has_chain (children graph image) 64 p
+
+-- what stands in the leaves that at most j inner edges lead to, the children from first to last
+unfoldable pub gathered : {X : Type 0} → (ℕ → Bool) → (ℕ → List ℕ) → (ℕ → List X) → ℕ → ℕ → List X
+gathered inner down own zero p = if inner p then [] else own p
+gathered inner down own (suc j) p = if inner p then flat_map (gathered inner down own j) (down p) else own p
+
+-- the keys below a node, or those of a leaf itself
+unfoldable pub keys_below : Graph → List (List ℕ) → ℕ → List ℕ
+keys_below graph image p =
+    gathered (is_inner_pair graph image) (children graph image) (own_keys graph image) 63 p
+
+-- keys stand below a child: there are some, none is below its key, and none at or above the next one
+abbrev pub is_child_in_range : ℕ → Option ℕ → List ℕ → Bool
+is_child_in_range low None keys = not (length keys == 0) && list_all (λ k. not (nat_lt k low)) keys
+is_child_in_range low (Some high) keys =
+    not (length keys == 0) && (list_all (λ k. not (nat_lt k low)) keys && list_all (λ k. nat_lt k high) keys)
+
+-- each child of a node is in range, by the node's keys and the keys below each child
+unfoldable pub are_children_in_range : List ℕ → List (List ℕ) → Bool
+are_children_in_range (low ∷ high ∷ lows) (keys ∷ rest) =
+    is_child_in_range low (Some high) keys && are_children_in_range (high ∷ lows) rest
+are_children_in_range (low ∷ []) (keys ∷ rest) = is_child_in_range low None keys
+are_children_in_range [] rest = true
+are_children_in_range (low ∷ lows) [] = true
+
+-- an inner node is in range where each of its children is
+unfoldable pub is_in_range : Graph → List (List ℕ) → ℕ → Bool
+is_in_range graph image p =
+    are_children_in_range (own_keys graph image p) (map (keys_below graph image) (children graph image p))

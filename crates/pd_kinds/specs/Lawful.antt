@@ -3,9 +3,8 @@ use Rattle.std.specs.Prelude.{◌≡◌, ℕ, ◌<◌, ◌≤◌, true, false, L
 use Rattle.std.specs.List.{AllByRecursion}
 use Rattle.pd_kinds.specs.declared.limits.TheConstants.{MAX_META_BLOCKS}
 use Rattle.pd_kinds.specs.declared.rule.Rule.{Rule}
-use Rattle.pd_kinds.specs.Edge.{Edge}
+use Rattle.pd_kinds.specs.Graph.{Edge, Graph}
 use Rattle.pd_kinds.specs.Node.{is_ascending}
-use Rattle.pd_kinds.specs.Graph.{Graph}
 
 -- an edge leads to a block from 1 to nr - 1, in a role that there is
 pub record IsWithin (graph : Graph) (edge : Edge) : Type 0 where

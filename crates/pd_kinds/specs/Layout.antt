@@ -3,15 +3,13 @@
 use Rattle.std.specs.Prelude.{ℕ, zero, suc, Bool, true, false, ◌&&◌, not, if◌then◌else◌, List, [], ◌∷◌, map}
 use Rattle.std.specs.List.{list_any, flat_map, range_with_len}
 use Rattle.pd_kinds.specs.declared.rule.Rule.{Rule}
-use Rattle.pd_kinds.specs.declared.rule.Rule.TheVariants as r
-use Rattle.pd_kinds.specs.Rule.{all_rules}
-use Rattle.pd_kinds.specs.RuleSet.{Test, failing, alone}
-use Rattle.pd_kinds.specs.Checksum.{has_checksum}
-use Rattle.pd_kinds.specs.Edge.{Edge, has_edge_outside}
+use Rattle.pd_kinds.specs.Rule.{all_rules, Test, failing, alone}
+use Rattle.pd_kinds.specs.Field.{has_checksum}
+use Rattle.pd_kinds.specs.Graph.{Edge, has_edge_outside, Graph}
 use Rattle.pd_kinds.specs.Node.{Entry, node_salt, node_tests, entry_count, key_at, value_at, child_at, is_inner_node, node_keys}
 use Rattle.pd_kinds.specs.Array.{array_bad}
 use Rattle.pd_kinds.specs.Bitmap.{bitmap_bad, index_bad, index_blocks}
-use Rattle.pd_kinds.specs.Graph.{Graph}
+use Rattle.pd_kinds.specs.declared.rule.Rule.TheVariants as r
 
 -- a tree: the size of its leaf values, and what an entry of a leaf names
 pub record Tree : Type 0 where

@@ -4,16 +4,15 @@ use Rattle.std.specs.Prelude.{ℕ, ◌/◌, ◌%◌, ◌^◌, max, Bool, ◌==�
 use Rattle.std.specs.List.{range_with_len}
 use Rattle.std.specs.Option.{unwrap_or}
 use Rattle.std.specs.Int.{bit_at}
-use Rattle.pd_kinds.specs.CacheRoles as cache_role
-use Rattle.pd_kinds.specs.EraRoles as era_role
 use Rattle.pd_kinds.specs.Node.{Entry}
 use Rattle.pd_kinds.specs.Graph.{Graph, block_at}
-use Rattle.pd_kinds.specs.ThinSuper.{thin_fields}
-use Rattle.pd_kinds.specs.ThinFormat.{thin_graph, mapped_block, mapped_time}
+use Rattle.pd_kinds.specs.ThinFormat.{thin_fields, thin_graph, mapped_block, mapped_time}
 use Rattle.pd_kinds.specs.CacheFormat.{cache_fields, cache_graph, has_dirty_bits}
 use Rattle.pd_kinds.specs.EraFormat.{era_fields, era_graph, writeset_bits, writeset_root}
 use Rattle.pd_kinds.specs.Trees.{entries_below, value_of_key}
 use Rattle.pd_kinds.specs.Whole.{array_words, mapping_array, dirty_array, top_entries, mapping_entries, details_entries, mapped_number, is_valid_word, is_dirty_word, origin_of_word, writeset_array}
+use Rattle.pd_kinds.specs.CacheRoles as cache_role
+use Rattle.pd_kinds.specs.EraRoles as era_role
 
 -- one mapping of a thin device
 pub record Mapping : Type 0 where

@@ -4,10 +4,9 @@
 use Rattle.std.specs.Prelude.{ℕ, ◌+◌, ◌*◌, ◌/◌, Bool, true, ◌==◌, ◌&&◌, ◌||◌, not, nat_lt, if◌then◌else◌, List, [], ◌∷◌, length, map}
 use Rattle.std.specs.List.{range_with_len}
 use Rattle.pd_kinds.specs.declared.rule.Rule.{Rule}
+use Rattle.pd_kinds.specs.Field.{Row, le, put, written, zeros, has_checksum, sealed}
+use Rattle.pd_kinds.specs.Rule.{Test, failing, alone}
 use Rattle.pd_kinds.specs.declared.rule.Rule.TheVariants as r
-use Rattle.pd_kinds.specs.Field.{Row, le, put, written, zeros}
-use Rattle.pd_kinds.specs.Checksum.{has_checksum, sealed}
-use Rattle.pd_kinds.specs.RuleSet.{Test, failing, alone}
 
 -- the salt of a node's checksum
 abbrev pub node_salt : ℕ

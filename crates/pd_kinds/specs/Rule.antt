@@ -1,7 +1,16 @@
 -- Trusted base.
 -- The rules in their order, and their printed names.
-use Rattle.std.specs.Prelude.{ℕ, Bool, ◌==◌, List, [], ◌∷◌, codes}
+-- What a set of rules holds, and the tests that make one.
+-- The faults of a metadata block.
+-- What a report keeps of the faults that were added to it, and which reports pass.
+use Rattle.std.specs.Prelude.{ℕ, Bool, ◌==◌, List, [], ◌∷◌, codes, false, ◌||◌, ◌&&◌, if◌then◌else◌, map, filter, ◌+◌, ◌++◌, count_by, length, take}
+use Rattle.std.specs.Int.{bit_at}
 use Rattle.pd_kinds.specs.declared.rule.Rule.{Rule}
+use Rattle.pd_kinds.specs.declared.rules.Rules.{Rules}
+use Rattle.pd_kinds.specs.declared.rule.Fault.{Fault}
+use Rattle.pd_kinds.specs.declared.rule.Space.TheVariants.{Meta}
+use Rattle.pd_kinds.specs.declared.kind.Passing.{Passing}
+use Rattle.pd_kinds.specs.declared.kind.Passing.TheVariants.{Nothing, Leaks}
 use Rattle.pd_kinds.specs.declared.rule.Rule.TheVariants as r
 
 -- the place of a rule in the order
@@ -64,3 +73,56 @@ rule_name r.Origin = codes "origin"
 rule_name r.Overflow = codes "overflow"
 rule_name r.Leak = codes "leak"
 rule_name r.Short = codes "short"
+
+-- whether the set has the rule
+abbrev pub has_rule : Rules → Rule → Bool
+has_rule rules wanted = bit_at rules.bits (number_of wanted) == 1
+
+-- one line of a table of rules: the rule, and whether it fails
+pub record Test : Type 0 where
+  pub rule : Rule
+  pub fails : Bool
+
+-- whether a rule fails by a table in which each rule is looked at by itself
+unfoldable pub failing : List Test → Rule → Bool
+failing [] wanted = false
+failing (test ∷ tests) wanted = (test.fails && same_rule test.rule wanted) || failing tests wanted
+
+-- where the first test fails its rule fails alone, and else the others decide
+unfoldable pub alone : Rule → Bool → (Rule → Bool) → Rule → Bool
+alone first fails others wanted = if fails then same_rule first wanted else others wanted
+
+-- a metadata block breaks a rule
+abbrev pub meta_fault : ℕ → Rule → Fault
+meta_fault block broken = record { space = Meta; block = block; rule = broken; stored = 0; refs = 0 }
+
+-- the rules that a block breaks, each a fault, in the order of the rules
+unfoldable pub faults_at : ℕ → (Rule → Bool) → List Fault
+faults_at block bad = map (meta_fault block) (filter bad all_rules)
+
+-- a fault is a leak: a stored count above the references
+abbrev pub is_leak : Fault → Bool
+is_leak fault = same_rule fault.rule r.Leak
+
+-- the faults that are kept, the number of all, and how many of all are leaks
+pub record Reported : Type 0 where
+  pub faults : List Fault
+  pub total : ℕ
+  pub leaks : ℕ
+
+-- the first 1000 of the faults, their number, and that of the leaks
+abbrev pub report_of : List Fault → Reported
+report_of faults = record { faults = take 1000 faults; total = length faults; leaks = count_by is_leak faults }
+
+-- a report with one more fault: it is kept if fewer than 1000 are, and counted with the leaks if it is one
+abbrev pub with_fault : Reported → Fault → Reported
+with_fault report fault = record {
+  faults = take 1000 (report.faults ++ (fault ∷ []));
+  total = report.total + 1;
+  leaks = if is_leak fault then report.leaks + 1 else report.leaks;
+}
+
+-- whether all faults that were added pass: there is none, or there are leaks alone
+abbrev pub passes : Passing → Reported → Bool
+passes Nothing report = report.total == 0
+passes Leaks report = report.leaks == report.total

@@ -5,25 +5,22 @@ use Rattle.std.specs.List.{list_any, flat_map, range_with_len}
 use Rattle.pd_kinds.specs.declared.kind.Kind.{Kind}
 use Rattle.pd_kinds.specs.declared.kind.Kind.TheVariants.{Thin, Cache, Era}
 use Rattle.pd_kinds.specs.declared.kind.Stage.{Stage}
-use Rattle.pd_kinds.specs.declared.kind.Stage.TheVariants as stages
 use Rattle.pd_kinds.specs.declared.rule.Rule.{Rule}
-use Rattle.pd_kinds.specs.declared.rule.Rule.TheVariants as r
-use Rattle.pd_kinds.specs.declared.fault.Fault.{Fault}
-use Rattle.pd_kinds.specs.declared.fault.Space.{Space}
-use Rattle.pd_kinds.specs.declared.fault.Space.TheVariants.{Meta, DataBlock}
-use Rattle.pd_kinds.specs.Rule.{same_rule}
-use Rattle.pd_kinds.specs.ThinSuper.{thin_fields, thin_super_bad}
-use Rattle.pd_kinds.specs.ThinFormat.{thin_graph}
+use Rattle.pd_kinds.specs.declared.rule.Fault.{Fault}
+use Rattle.pd_kinds.specs.declared.rule.Space.{Space}
+use Rattle.pd_kinds.specs.declared.rule.Space.TheVariants.{Meta, DataBlock}
+use Rattle.pd_kinds.specs.Rule.{same_rule, meta_fault, faults_at}
+use Rattle.pd_kinds.specs.ThinFormat.{thin_fields, thin_super_bad, thin_graph}
 use Rattle.pd_kinds.specs.CacheFormat.{cache_fields, cache_super_bad, cache_graph}
 use Rattle.pd_kinds.specs.EraFormat.{era_fields, era_super_bad, era_graph}
+use Rattle.pd_kinds.specs.Graph.{Graph, block_at, pair, is_reached, is_inner_pair, meta_count, data_count, is_deep, is_in_range}
+use Rattle.pd_kinds.specs.Trees.{entries_below, stored_meta_in, stored_data_in}
+use Rattle.pd_kinds.specs.Whole.{WholeTest, whole_bad, data_index_entries, thin_whole, cache_whole, era_whole}
+use Rattle.pd_kinds.specs.declared.kind.Stage.TheVariants as stages
+use Rattle.pd_kinds.specs.declared.rule.Rule.TheVariants as r
 use Rattle.pd_kinds.specs.ThinRoles as thin_role
 use Rattle.pd_kinds.specs.CacheRoles as cache_role
 use Rattle.pd_kinds.specs.EraRoles as era_role
-use Rattle.pd_kinds.specs.Graph.{Graph, block_at, pair, is_reached, is_inner_pair, meta_count, data_count}
-use Rattle.pd_kinds.specs.Order.{is_deep, is_in_range}
-use Rattle.pd_kinds.specs.Trees.{entries_below, stored_meta_in, stored_data_in}
-use Rattle.pd_kinds.specs.Whole.{WholeTest, whole_bad, data_index_entries, thin_whole, cache_whole, era_whole}
-use Rattle.pd_kinds.specs.Faults.{meta_fault, faults_at}
 
 -- what a check of one kind looks at in an image
 pub record Checked : Type 0 where

@@ -1,13 +1,15 @@
 -- Trusted base.
 -- What makes a block the superblock of one of the three kinds.
-use Rattle.std.specs.Prelude.{ℕ, Bool, ◌==◌, ◌&&◌, ◌||◌, not, List, [], ◌∷◌}
+-- The root of a space map, as it stands in a superblock (struct disk_sm_root of
+-- "drivers/md/persistent-data/dm-space-map-common.h").
+use Rattle.std.specs.Prelude.{ℕ, Bool, ◌==◌, ◌&&◌, ◌||◌, not, List, [], ◌∷◌, ◌+◌}
 use Rattle.pd_kinds.specs.declared.kind.Kind.{Kind}
 use Rattle.pd_kinds.specs.declared.kind.Kind.TheVariants.{Thin, Cache, Era}
 use Rattle.pd_kinds.specs.declared.rule.Rule.{Rule}
+use Rattle.pd_kinds.specs.Rule.{Test, failing, alone}
+use Rattle.pd_kinds.specs.Field.{Row, le, put_bytes, written, has_checksum, sealed}
+use Rattle.pd_kinds.specs.declared.superblocks.SmRoot.{SmRoot}
 use Rattle.pd_kinds.specs.declared.rule.Rule.TheVariants as r
-use Rattle.pd_kinds.specs.RuleSet.{Test, failing, alone}
-use Rattle.pd_kinds.specs.Field.{Row, le, put_bytes, written}
-use Rattle.pd_kinds.specs.Checksum.{has_checksum, sealed}
 
 -- the magic number, which stands in the eight bytes at offset 32
 abbrev pub magic_of : Kind → ℕ
@@ -45,3 +47,20 @@ head_rows kind =
 -- the superblock of a kind, for block 0, over a block with its other fields
 unfoldable pub super_block : Kind → List ℕ → List ℕ → List ℕ
 super_block kind uuid block = sealed (put_bytes (written block (head_rows kind)) 16 uuid) (salt_of kind)
+
+-- its table from offset o on, by what is had of a number at an offset and of a size
+abbrev pub map_table : (ℕ → ℕ → ℕ) → ℕ → SmRoot
+map_table number o = record {
+  blocks = number o 8;
+  allocated = number (o + 8) 8;
+  bitmap_root = number (o + 16) 8;
+  overflow_root = number (o + 24) 8;
+}
+
+-- its numbers in a row
+abbrev pub map_numbers : SmRoot → List ℕ
+map_numbers map = map.blocks ∷ map.allocated ∷ map.bitmap_root ∷ map.overflow_root ∷ []
+
+-- the space map root at offset o of a block
+abbrev pub map_fields : List ℕ → ℕ → SmRoot
+map_fields block o = map_table (le block) o

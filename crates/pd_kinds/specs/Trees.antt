@@ -6,8 +6,7 @@ use Rattle.std.specs.Option.{option_map, option_and_then}
 use Rattle.pd_kinds.specs.Node.{Entry}
 use Rattle.pd_kinds.specs.Array.{word_at, word_count}
 use Rattle.pd_kinds.specs.Bitmap.{two_bits_of, index_block_at}
-use Rattle.pd_kinds.specs.Graph.{Graph, block_at, pair, block_of, is_inner_pair}
-use Rattle.pd_kinds.specs.Order.{children, gathered}
+use Rattle.pd_kinds.specs.Graph.{Graph, block_at, pair, block_of, is_inner_pair, children, gathered}
 use Rattle.pd_kinds.specs.Layout.{leaf_entries}
 
 -- the entries of the leaves below a block in a role, whose leaf values have this size

@@ -4,20 +4,20 @@ use Rattle.std.specs.Prelude.{ℕ, ◌+◌, ◌/◌, ◌%◌, ◌^◌, Bool, tru
 use Rattle.std.specs.List.{list_any, flat_map, range_with_len}
 use Rattle.std.specs.Str.{bytes_eq}
 use Rattle.pd_kinds.specs.declared.rule.Rule.{Rule}
-use Rattle.pd_kinds.specs.declared.rule.Rule.TheVariants as r
 use Rattle.pd_kinds.specs.Rule.{same_rule}
 use Rattle.pd_kinds.specs.Node.{Entry}
 use Rattle.pd_kinds.specs.Array.{word_count, max_words}
 use Rattle.pd_kinds.specs.Bitmap.{bitmaps_for}
-use Rattle.pd_kinds.specs.ThinRoles as thin_role
-use Rattle.pd_kinds.specs.CacheRoles as cache_role
-use Rattle.pd_kinds.specs.EraRoles as era_role
 use Rattle.pd_kinds.specs.Graph.{Graph, block_at, block_of, role_of, nodes, meta_count}
 use Rattle.pd_kinds.specs.Layout.{leaf_entries}
 use Rattle.pd_kinds.specs.Trees.{entries_below, keys_of, words_of}
-use Rattle.pd_kinds.specs.ThinSuper.{thin_fields}
+use Rattle.pd_kinds.specs.ThinFormat.{thin_fields}
 use Rattle.pd_kinds.specs.CacheFormat.{cache_fields, has_dirty_bits}
 use Rattle.pd_kinds.specs.EraFormat.{era_fields, writeset_bits, writeset_root}
+use Rattle.pd_kinds.specs.declared.rule.Rule.TheVariants as r
+use Rattle.pd_kinds.specs.ThinRoles as thin_role
+use Rattle.pd_kinds.specs.CacheRoles as cache_role
+use Rattle.pd_kinds.specs.EraRoles as era_role
 
 -- a rule that is looked at for the whole image: the block that it is charged to, and whether it fails
 pub record WholeTest : Type 0 where

@@ -2,7 +2,7 @@
 
 ghost use Rattle.std.specs.Prelude.{◌≡◌};
 ghost use Rattle.pd_kinds.specs.Bitmap.{bitmaps_for};
-ghost use Rattle.pd_kinds.specs.Limits.{is_meta_size_bad};
+ghost use Rattle.pd_kinds.specs.Image.{is_meta_size_bad};
 
 /// How many reference counts of two bits a bitmap has ("drivers/md/persistent-data/dm-space-map-common.h").
 pub const BITMAP_COUNTS: u64 = 16320;

@@ -1,12 +1,14 @@
 //! A report: the first thousand faults, and how many there are.
 
-ghost use Rattle.std.specs.Prelude.{◌≡◌, ◌==◌, ◌-◌, ◌^◌, ◌<◌, ◌≤◌, ◌+◌, ◌++◌, ◌∷◌, [], List, length, take, map, filter, slice_get, if◌then◌else◌};
-ghost use Rattle.pd_kinds.specs.Report.{is_leak};
+ghost use Rattle.std.specs.Prelude.{◌≡◌, ◌==◌, ◌-◌, ◌^◌, ◌<◌, ◌≤◌, ◌+◌, ◌++◌, ◌∷◌, [], List, length};
+ghost use Rattle.std.specs.Prelude.{take, map, filter, slice_get, if◌then◌else◌};
+ghost use Rattle.pd_kinds.specs.Rule.{is_leak};
+ghost use Rattle.pd_kinds.specs.declared.report.CheckFault.TheVariants.{Memory};
 
-use crate::fault::{Fault, Space};
 use crate::kind::Passing;
-use crate::rule::Rule;
+use crate::rule::{Fault, Rule, Space};
 use crate::rules::Rules;
+use std::alloc::{AllocError, AllocFailed};
 use std::marker::Model;
 
 /// How many faults a report keeps.
@@ -25,7 +27,7 @@ pub struct Report {
 
 impl Model for Report {
     ghost use Rattle.std.specs.Prelude.{◌≡◌, ◌≤◌, length, take, min};
-    ghost use Rattle.pd_kinds.specs.Report.{Reported};
+    ghost use Rattle.pd_kinds.specs.Rule.{Reported};
 
     ghost Value = { Reported };
 
@@ -35,10 +37,10 @@ impl Model for Report {
 }
 
 impl Report {
-    ghost use Rattle.pd_kinds.specs.Report.{Reported, passes, report_of, with_fault};
-    ghost use Rattle.pd_kinds.specs.RuleSet.{has_rule};
-    ghost use Rattle.pd_kinds.specs.Faults.{meta_fault, faults_at};
-    ghost use Rattle.pd_kinds.specs.declared.fault.Fault.{Fault};
+    ghost use Rattle.pd_kinds.specs.Rule.{passes, report_of, with_fault};
+    ghost use Rattle.pd_kinds.specs.Rule.{has_rule};
+    ghost use Rattle.pd_kinds.specs.Rule.{meta_fault, faults_at};
+    ghost use Rattle.pd_kinds.specs.declared.rule.Fault.{Fault};
 
     /// A report without faults.
     pub fn new() -> Report
@@ -74,11 +76,12 @@ impl Report {
         self.leaks = leaks_with(self.leaks, &fault);
     }
 
-    #[tactic(auto, unfolding(crate::specs::Faults::faults_at, crate::specs::Rule::all_rules))]
+    #[tactic(auto, unfolding(crate::specs::Rule::faults_at, crate::specs::Rule::all_rules))]
     /// Adds a fault for each rule of the set, in the order of the rules, each of this metadata block.
     pub fn add_rules(&mut self, block: u64, rules: &Rules)
         requires { self.old.total < 2 ^ 64 - 22 }
-        ensures faults { (before : List Fault) → self.old ≡ report_of before → self.new ≡ report_of (before ++ faults_at block (has_rule rules.now)) }
+        ensures faults { (before : List Fault) → self.old ≡ report_of before
+            → self.new ≡ report_of (before ++ faults_at block (has_rule rules.now)) }
         ensures total { self.new.total ≤ self.old.total + 22 }
     {
         self.add_broken(block, rules, &Rule::ALL);
@@ -170,4 +173,31 @@ fn leaks_with(leaks: u64, fault: &Fault) -> u64
     ensures few { result ≤ leaks + 1 }
 {
     if fault.is_leak() { leaks + 1 } else { leaks }
+}
+
+// Why a check has no report.
+
+/// Why a check has no report.
+#[derive(Clone, Copy, Debug, PartialEq, Eq)]
+pub enum CheckFault {
+    /// Memory wasn't found.
+    Memory,
+    /// The device failed, and has counted it.
+    Device,
+}
+
+impl From<AllocError> for CheckFault {
+    ghost from_gives = { λ _ fault. fault ≡ Memory };
+
+    fn from(_error: AllocError) -> CheckFault {
+        CheckFault::Memory
+    }
+}
+
+impl<T: Drop> From<AllocFailed<T>> for CheckFault {
+    ghost from_gives = { λ _ fault. fault ≡ Memory };
+
+    fn from(_failed: AllocFailed<T>) -> CheckFault {
+        CheckFault::Memory
+    }
 }

@@ -14,7 +14,7 @@ pub struct Rules {
 
 impl Rules {
     ghost use Rattle.pd_kinds.specs.Rule.{same_rule};
-    ghost use Rattle.pd_kinds.specs.RuleSet.{has_rule};
+    ghost use Rattle.pd_kinds.specs.Rule.{has_rule};
 
     /// The empty set.
     pub fn none() -> Rules

@@ -4,13 +4,11 @@ use Rattle.std.proofs.lemmas.List.{length-append}
 use Rattle.std.proofs.lemmas.List.FromFn.{length-map-range_with_len}
 use Rattle.pd_kinds.specs.Layout.{tree_to}
 use Rattle.pd_kinds.specs.Meaning.{CacheMeaning}
-use Rattle.pd_laid.specs.Laid.{LaidBlock, laid_number, tree_of}
-use Rattle.pd_laid.specs.Array.{laid_array}
-use Rattle.pd_laid.specs.Map.{meta_overflow}
 use Rattle.pd_kinds.specs.CacheFormat.{has_dirty_bits}
+use Rattle.pd_grammar.specs.Need.{need_array}
+use Rattle.pd_grammar.specs.CacheText.{need_of_cache}
+use Rattle.pd_laid.specs.Laid.{LaidBlock, laid_number, tree_of, laid_array, meta_overflow}
 use Rattle.pd_laid.specs.LaidCache.{entry_of, mapping_word, hint_word, mapping_words, hint_words, dirty_word, dirty_words, mapping_blocks, hints_at, hint_blocks, has_hints, dirty_at, dirty_blocks, discards_at, discard_blocks, cache_parts, cache_named, meta_map_at, meta_map_blocks, laid_cache}
-use Rattle.pd_spells.specs.Need.{need_array}
-use Rattle.pd_spells.specs.CacheNeed.{need_of_cache}
 use Rattle.pd_laid.proofs.NeedLemmas.{length-tree, length-array, length-map_blocks}
 
 -- blocks that are laid only where there is something

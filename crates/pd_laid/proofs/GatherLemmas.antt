@@ -1,12 +1,20 @@
 -- What stands below a node: to a depth that no chain reaches, and in the range of each child.
-use Rattle.std.proofs.Common.{◌≡◌, inl, inr, ℕ, zero, suc, ◌+◌, ◌<◌, ◌≤◌, Bool, true, false, not, ◌&&◌, nat_eq, nat_lt, List, [], ◌∷◌, ◌++◌, length, map, filter, refl, sym, ◌∙◌, ap, ap₂, cond, arith}
+use Rattle.std.proofs.Common.{◌≡◌, inl, inr, ℕ, zero, suc, ◌+◌, ◌<◌, ◌≤◌, Bool, true, false, not, ◌&&◌, nat_eq, nat_lt, List, [], ◌∷◌, ◌++◌, length, map, filter, refl, sym, ◌∙◌, ap, ap₂, cond, arith, ◌||◌, ◌^◌}
 use Rattle.std.specs.List.{AllByRecursion, list_any, list_all, flat_map, range_with_len}
 use Rattle.std.proofs.lemmas.Bool.{cases_Bool, cases_lt, both_ways, and_parts, or_parts, le-ltb, lt-ltb}
 use Rattle.std.proofs.lemmas.Bool.Decides.{nat_tests}
 use Rattle.std.proofs.lemmas.Grind.{flat_map-append}
-use Rattle.std.proofs.lemmas.List.{map-append}
-use Rattle.pd_kinds.specs.Node.{Entry}
-use Rattle.pd_kinds.specs.Order.{has_chain, gathered, are_children_in_range}
+use Rattle.std.proofs.lemmas.List.{map-append, append-nil, length-map}
+use Rattle.std.proofs.lemmas.Nat.{div-mul-add}
+use Rattle.pd_kinds.specs.Node.{Entry, entry_count, child_at, is_inner_node}
+use Rattle.pd_kinds.specs.Graph.{has_chain, gathered, are_children_in_range, is_outside, block_at}
+use Rattle.pd_kinds.proofs.KindsListLemmas.{all_first, all_last}
+use Rattle.pd_kinds.proofs.ListLemmas.{all_of}
+use Rattle.pd_kinds.specs.Meaning.{Mapping}
+use Rattle.pd_kinds.specs.ThinFormat.{mapped_block}
+use Rattle.pd_kinds.specs.Field.{mapping_code}
+use Rattle.pd_laid.specs.Salvage.{is_damaged, child_low, child_high, salvaged_below, entries_of_visit, visits}
+use Rattle.pd_laid.specs.LaidThin.{mapping_items}
 
 -- numbers from one on, and below one
 abbrev pub AreFrom : ℕ → List ℕ → Type 0
@@ -35,15 +43,6 @@ pub kept_in_range : (low high : ℕ) (entries : List Entry) → AreFrom low (map
 kept_in_range low high [] from below = refl
 kept_in_range low high (e ∷ entries) from below =
     rw (le-ltb e.key low from.0, lt-ltb e.key high below.0, kept_in_range low high entries from.1 below.1) refl
-
--- the two parts of a list
-pub all_first : {X : Type 0} → (P : X → Type 0) (xs ys : List X) → AllByRecursion P (xs ++ ys) → AllByRecursion P xs
-all_first P [] ys all = tt
-all_first P (x ∷ xs) ys all = (all.0, all_first P xs ys all.1)
-
-pub all_last : {X : Type 0} → (P : X → Type 0) (xs ys : List X) → AllByRecursion P (xs ++ ys) → AllByRecursion P ys
-all_last P [] ys all = all
-all_last P (x ∷ xs) ys all = all_last P xs ys all.1
 
 -- lists that are joined along a range
 pub all_at : {X : Type 0} → (P : X → Type 0) (f : ℕ → List X) (a n k : ℕ) → AllByRecursion P (flat_map f (range_with_len a n)) → a ≤ k → k < a + n
@@ -161,3 +160,45 @@ child_range low keys (suc d) (suc (suc n)) a within is =
     let here : a + suc d ≡ a + 1 + d = omega arith in
     let rest = child_range low keys d (suc n) (a + 1) (omega arith) (and_parts _ _ is).1 in
     rw here (rest.0, λ more. rest.1 (omega arith))
+
+-- What is given below a node are the entries of the visits there, one visit after another.
+
+module _ (size nr : ℕ) (image : List (List ℕ)) where
+  pub visits_give : (j place low high : ℕ) → flat_map (entries_of_visit size image) (visits size nr image j place low high) ≡ salvaged_below size nr image j place low high
+  unfolding visits salvaged_below
+  visits_give zero place low high = refl
+  visits_give (suc j) place low high = elim (cases_Bool (is_outside nr place || is_damaged size place (block_at image place))) [
+    | inl lost ↦ rw lost refl
+    | inr kept ↦ elim (cases_Bool (is_inner_node (block_at image place))) [
+      | inl inner ↦
+          let block = block_at image place in
+          let child = λ (i : ℕ). visits size nr image j (child_at block i) (child_low block low i) (child_high size block high i) in
+          let children = range_with_len 0 (entry_count size block) in
+          rw (kept, inner) (joined_twice (entries_of_visit size image) child children
+          ∙ same_each (λ i. flat_map (entries_of_visit size image) (child i))
+          (λ i. salvaged_below size nr image j (child_at block i) (child_low block low i) (child_high size block high i)) children
+          (all_of (λ i. flat_map (entries_of_visit size image) (child i) ≡ salvaged_below size nr image j (child_at block i) (child_low block low i) (child_high size block high i))
+          (λ i. visits_give j (child_at block i) (child_low block low i) (child_high size block high i)) children))
+      | inr leaf ↦ rw (kept, leaf) (append-nil (entries_of_visit size image (record { leaf = place; low = low; high = high })))
+    ]
+  ]
+
+-- The entries of mappings.
+
+pub length-items : (ms : List Mapping) → length (mapping_items ms) ≡ length ms
+unfolding mapping_items
+length-items ms = length-map ms (λ (m : Mapping). record { key = m.virtual_block; value = mapping_code m.data_block m.time })
+
+pub items-append : (xs ys : List Mapping) → mapping_items (xs ++ ys) ≡ mapping_items xs ++ mapping_items ys
+unfolding mapping_items
+items-append xs ys = map-append _ xs ys
+
+-- a mapping's entry names its data block, where its time has 24 bits
+abbrev pub HasTimes : List Mapping → Type 0
+HasTimes ms = AllByRecursion (λ (m : Mapping). m.time < 2 ^ 24) ms
+
+pub data_of_items : (ms : List Mapping) → HasTimes ms
+    → flat_map (λ (e : Entry). mapped_block e.value ∷ []) (mapping_items ms) ≡ map (λ (m : Mapping). m.data_block) ms
+unfolding mapping_items
+data_of_items [] times = refl
+data_of_items (m ∷ ms) times = rw (div-mul-add m.data_block (2 ^ 24) m.time times.0, data_of_items ms times.1) refl

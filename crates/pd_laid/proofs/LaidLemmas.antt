@@ -1,16 +1,17 @@
 -- Blocks that are written one after another.
-use Rattle.std.proofs.Common.{◌≡◌, ◌≤◌, ℕ, suc, ◌+◌, List, [], ◌∷◌, ◌++◌, length, map, take, drop, refl, sym, ◌∙◌, ap, arith}
-use Rattle.std.proofs.Math.Seq.{take-append_seam, drop-append_seam}
-use Rattle.std.proofs.lemmas.List.{length-append, length-drop, length-map, take-append-drop}
-use Rattle.pd_kinds.specs.Layout.{Tree}
+use Rattle.std.proofs.Common.{◌≡◌, ◌≤◌, ℕ, suc, ◌+◌, List, [], ◌∷◌, ◌++◌, length, map, take, drop, refl, sym, ◌∙◌, ap, arith, inl, inr, zero, ◌*◌, ◌/◌, ◌<◌, cond, nat_lt, get_or}
+use Rattle.std.proofs.Math.Seq.{take-append_seam, drop-append_seam, take-length}
+use Rattle.std.proofs.lemmas.List.{length-append, length-drop, length-map, take-append-drop, length-take-le, append-nil}
+use Rattle.std.specs.List.{flat_map, AllByRecursion}
+use Rattle.std.proofs.lemmas.Bool.{cases_lt, lt-ltb, le-ltb, cases_eq}
+use Rattle.std.proofs.Math.Nat.{suc-mul, mul-suc, div-mul-le_self, lt-div-mul-add, mul-le-mul_right, mul_comm}
+use Rattle.std.proofs.lemmas.Nat.{div-mul-add}
+use Rattle.pd_kinds.specs.Layout.{Tree, tree_to}
 use Rattle.pd_kinds.specs.Node.{Entry, leaf_block, inner_block}
 use Rattle.pd_kinds.specs.Array.{array_block}
-use Rattle.pd_kinds.specs.Layout.{tree_to}
-use Rattle.pd_laid.specs.Array.{array_pieces, array_items, laid_words, laid_array}
+use Rattle.pd_laid.specs.Laid.{array_pieces, array_items, laid_words, laid_array, blocks_from, tree_blocks, tree_leaves, tree_inners, LaidBlock, Laid, IsLaid, written_from, tree_of, laid_blocks, laid_number, laid_leaf, laid_inner, laid_tree, even_parts}
 use Rattle.pd_laid.specs.LaidThin.{device_leaves, device_inners, laid_device}
 use Rattle.pd_laid.specs.Shape.{ShapeDevice}
-use Rattle.pd_laid.specs.Tree.{blocks_from, tree_blocks, tree_leaves, tree_inners}
-use Rattle.pd_laid.specs.Laid.{LaidBlock, Laid, IsLaid, written_from, tree_of, laid_blocks, laid_number, laid_leaf, laid_inner, laid_tree}
 
 -- each of them takes one block
 pub length-blocks_from : {X : Type 0} (write : ℕ → X → List ℕ) (place : ℕ) (xs : List X) → length (blocks_from write place xs) ≡ length xs
@@ -100,3 +101,130 @@ laid_over laid base room =
       first = ap (λ k. take k (blocks ++ rest)) (sym number) ∙ take-append_seam blocks rest;
       rest = ap (λ k. drop k (blocks ++ rest)) (sym number) ∙ drop-append_seam blocks rest;
     }
+
+-- An even spread.
+
+pub length-spread : {X : Type 0} (k : ℕ) (xs : List X) → length (even_parts k xs) ≡ k
+unfolding even_parts
+length-spread zero xs = refl
+length-spread (suc k) xs = ap suc (length-spread k (drop ((length xs + k) / suc k) xs))
+
+-- the size of the first part, where so many are left over
+first_size : (n k q r : ℕ) → n ≡ q * suc k + r → r < suc k → (n + k) / suc k ≡ q + cond (nat_lt 0 r) 1 0
+first_size n k q zero is below =
+    let same : n + k ≡ q * suc k + k = omega arith in
+    let whole : q + 0 ≡ q = omega arith in
+    ap (λ (m : ℕ). m / suc k) same ∙ (div-mul-add q (suc k) k (omega arith) ∙ sym whole)
+first_size n k q (suc r) is below =
+    let more = suc-mul q (suc k) in
+    let same : n + k ≡ suc q * suc k + r = omega arith in
+    let whole : q + 1 ≡ suc q = omega arith in
+    rw (lt-ltb 0 (suc r) (omega arith)) (ap (λ (m : ℕ). m / suc k) same ∙ (div-mul-add (suc q) (suc k) r (omega arith) ∙ sym whole))
+
+-- a part isn't longer than the list
+size_fits : (n k q r : ℕ) → n ≡ q * suc k + r → r < suc k → q + cond (nat_lt 0 r) 1 0 ≤ n
+size_fits n k q zero is below = let more = mul-suc q k in omega arith
+size_fits n k q (suc r) is below = let more = mul-suc q k in rw (lt-ltb 0 (suc r) (omega arith)) (omega arith)
+
+next_less : (i r : ℕ) → nat_lt (suc i) (suc r) ≡ nat_lt i r
+next_less i r = elim (cases_lt i r) [
+  | inl less ↦ lt-ltb (suc i) (suc r) (omega arith) ∙ sym (lt-ltb i r less)
+  | inr more ↦ le-ltb (suc i) (suc r) (omega arith) ∙ sym (le-ltb i r more)
+]
+
+-- the sizes of all parts
+pub part_sizes : {X : Type 0} (k q r i : ℕ) (xs : List X) → length xs ≡ q * suc k + r → r < suc k → i < suc k
+    → length (get_or (even_parts (suc k) xs) i []) ≡ q + cond (nat_lt i r) 1 0
+unfolding even_parts
+part_sizes k q r zero xs is below within =
+    let size = first_size (length xs) k q r is below in
+    let fits = size_fits (length xs) k q r is below in
+    length-take-le ((length xs + k) / suc k) xs (rw size fits) ∙ size
+part_sizes zero q r (suc i) xs is below within = absurd (omega arith)
+part_sizes (suc k) q zero (suc i) xs is below within =
+    let size = first_size (length xs) (suc k) q 0 is below in
+    let rest = drop ((length xs + suc k) / suc (suc k)) xs in
+    let more = mul-suc q (suc k) in
+    let left : length rest ≡ q * suc k + 0 = let dropped = length-drop ((length xs + suc k) / suc (suc k)) xs in omega arith in
+    rw (le-ltb (suc i) 0 (omega arith)) (rw (le-ltb i 0 (omega arith)) at (part_sizes k q 0 i rest left (omega arith) (omega arith)))
+part_sizes (suc k) q (suc r) (suc i) xs is below within =
+    let size = rw (lt-ltb 0 (suc r) (omega arith)) at (first_size (length xs) (suc k) q (suc r) is below) in
+    let rest = drop ((length xs + suc k) / suc (suc k)) xs in
+    let more = mul-suc q (suc k) in
+    let left : length rest ≡ q * suc k + r = let dropped = length-drop ((length xs + suc k) / suc (suc k)) xs in omega arith in
+    rw (next_less i r) (part_sizes k q r i rest left (omega arith) (omega arith))
+
+-- the parts joined are the list
+pub joined_spread : {X : Type 0} (k : ℕ) (xs : List X) → flat_map (λ (part : List X). part) (even_parts (suc k) xs) ≡ xs
+unfolding even_parts
+joined_spread zero xs =
+    let size : (length xs + 0) / 1 ≡ length xs = first_size (length xs) 0 (length xs) 0 (omega arith) (omega arith) ∙ omega arith in
+    append-nil (take ((length xs + 0) / 1) xs) ∙ (ap (λ (n : ℕ). take n xs) size ∙ take-length xs)
+joined_spread {X} (suc k) xs =
+    let size = (length xs + suc k) / suc (suc k) in
+    ap (λ (rest : List X). take size xs ++ rest) (joined_spread k (drop size xs)) ∙ take-append-drop size xs
+
+-- A list spread over nodes: no part is empty, and none has more than there is room.
+
+-- the size of the first part
+pub record IsFirstOf (n k c : ℕ) : Type 0 where
+  pub enough : n ≤ c * k + c
+  pub few : c * k + c ≤ n + k
+  pub within : c ≤ n
+
+pub first_of : (n k : ℕ) → IsFirstOf n k ((n + k) / suc k)
+first_of n k =
+    let c = (n + k) / suc k in
+    let below : c * suc k ≤ n + k = div-mul-le_self (n + k) (suc k) in
+    let above : n + k < c * suc k + suc k = lt-div-mul-add (omega arith) in
+    let split : c * suc k ≡ c * k + c = mul-suc c k in
+    record {
+      enough = omega arith;
+      few = omega arith;
+      within = elim (cases_eq c 0) [
+        | inl none ↦ omega arith
+        | inr some ↦ let more : 1 * k ≤ c * k = mul-le-mul_right k (omega arith) in omega arith
+      ];
+    }
+
+module _ {X : Type 0} where
+  -- none is empty where there are as many elements
+  pub spread_some : (k : ℕ) (xs : List X) → k ≤ length xs → AllByRecursion (λ (part : List X). 1 ≤ length part) (even_parts k xs)
+  unfolding even_parts
+  spread_some zero xs many = tt
+  spread_some (suc k) xs many =
+      let c = (length xs + k) / suc k in
+      let first = first_of (length xs) k in
+      let some : 1 ≤ c = elim (cases_eq c 0) [
+        | inl none ↦ absurd (let e : c * k ≡ 0 * k = ap (λ (m : ℕ). m * k) none in omega (arith, first.enough))
+        | inr some ↦ omega arith
+      ] in
+      let rest : c + k ≤ length xs = elim (cases_eq c 1) [
+        | inl one ↦ omega arith
+        | inr more ↦ let twice : 2 * k ≤ c * k = mul-le-mul_right k (omega arith) in omega (arith, first.few)
+      ] in
+      let taken = length-take-le c xs first.within in
+      let left = length-drop c xs in
+      (omega arith, spread_some k (drop c xs) (omega arith))
+
+  -- none has more than there is room, where there are nodes enough
+  pub spread_most : (most k : ℕ) (xs : List X) → length xs ≤ k * most → AllByRecursion (λ (part : List X). length part ≤ most) (even_parts k xs)
+  unfolding even_parts
+  spread_most most zero xs few = tt
+  spread_most most (suc k) xs few =
+      let c = (length xs + k) / suc k in
+      let first = first_of (length xs) k in
+      let whole : suc k * most ≡ k * most + most = suc-mul k most in
+      let small : c ≤ most = elim (cases_lt most c) [
+        | inl more ↦
+            let scaled : suc most * k ≤ c * k = mul-le-mul_right k more in
+            let split : suc most * k ≡ most * k + k = suc-mul most k in
+            let swap = mul_comm most k in
+            absurd (omega (arith, first.few))
+        | inr small ↦ small
+      ] in
+      let scaled : c * k ≤ most * k = mul-le-mul_right k small in
+      let swap = mul_comm most k in
+      let taken = length-take-le c xs first.within in
+      let left = length-drop c xs in
+      (omega arith, spread_most most k (drop c xs) (omega (arith, first.enough)))

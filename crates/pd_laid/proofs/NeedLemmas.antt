@@ -8,15 +8,11 @@ use Rattle.pd_kinds.specs.Meaning.{EraMeaning}
 use Rattle.pd_kinds.specs.Node.{Entry, max_entries}
 use Rattle.pd_kinds.specs.Array.{max_words}
 use Rattle.pd_kinds.specs.Bitmap.{bitmaps_for}
-use Rattle.pd_spells.specs.Need.{nodes_for, need_above, need_tree, need_array, need_meta_map, nodes_of_tree}
-use Rattle.pd_laid.specs.Tree.{heads, levels_above, inners_above, tree_blocks, tree_leaves, tree_inners, leaf_row, behind_leaves, even_parts}
-use Rattle.pd_laid.specs.Laid.{LaidBlock, laid_number, tree_of, laid_leaf, laid_inner, laid_tree}
-use Rattle.pd_laid.specs.Array.{pieces, array_pieces, array_items, laid_words, laid_array}
-use Rattle.pd_laid.specs.Map.{laid_bitmap, laid_bitmaps, meta_overflow, meta_overflow_at, meta_overflow_blocks, meta_counts, laid_meta_map}
-use Rattle.pd_spells.specs.EraNeed.{need_of_era}
+use Rattle.pd_grammar.specs.Need.{nodes_for, need_above, need_tree, need_array, need_meta_map, nodes_of_tree}
+use Rattle.pd_grammar.specs.EraText.{need_of_era}
+use Rattle.pd_laid.specs.Laid.{heads, levels_above, inners_above, tree_blocks, tree_leaves, tree_inners, leaf_row, behind_leaves, even_parts, LaidBlock, laid_number, tree_of, laid_leaf, laid_inner, laid_tree, pieces, array_pieces, array_items, laid_words, laid_array, laid_bitmap, laid_bitmaps, meta_overflow, meta_overflow_at, meta_overflow_blocks, meta_counts, laid_meta_map}
 use Rattle.pd_laid.specs.LaidEra.{era_blocks, writeset_blocks, writesets_at, era_parts, era_named, meta_map_at, meta_map_blocks, laid_era}
-use Rattle.pd_laid.proofs.LaidLemmas.{length-blocks_from, tree_written}
-use Rattle.pd_laid.proofs.SpreadLemmas.{length-spread}
+use Rattle.pd_laid.proofs.LaidLemmas.{length-blocks_from, tree_written, length-spread}
 
 pub length-heads : (place : ℕ) (nodes : List (List Entry)) → length (heads place nodes) ≡ length nodes
 unfolding heads
@@ -74,7 +70,7 @@ unfolding pieces
 length-pieces most zero words = refl
 length-pieces most (suc k) words = ap suc (length-pieces most k _)
 
-length-items : (place k : ℕ) → length (array_items place k) ≡ k
+pub length-items : (place k : ℕ) → length (array_items place k) ≡ k
 unfolding array_items
 length-items place k = length-map-range_with_len (λ (i : ℕ). record { key = i; value = place + i }) 0 k
 

@@ -1,45 +1,37 @@
 -- What is known of a reached node of a tree where no reached pair breaks a rule: it isn't damaged, and its children
 -- are reached nodes of the tree.
-use Rattle.std.proofs.Common.{◌≡◌, inl, inr, ℕ, zero, suc, ◌+◌, ◌*◌, ◌<◌, ◌≤◌, Bool, true, false, not, ◌&&◌, ◌||◌, nat_eq, List, [], ◌∷◌, map, refl, sym, ◌∙◌, ap, subst, eq-eqb, zero-add, zero-le, max, min, ◌^◌, arith}
+use Rattle.std.proofs.Common.{◌≡◌, inl, inr, ℕ, zero, suc, ◌+◌, ◌*◌, ◌<◌, ◌≤◌, Bool, true, false, not, nat_eq, List, [], ◌∷◌, map, refl, sym, ◌∙◌, ap, subst, eq-eqb, zero-add, zero-le, max, min, ◌^◌, arith}
 use Rattle.std.specs.List.{AllByRecursion, list_any, flat_map, range_with_len}
 use Rattle.std.proofs.lemmas.List.{append-nil}
 use Rattle.std.proofs.lemmas.List.Folds.{flat_map-map}
 use Rattle.std.proofs.Math.Path.{fun_ext}
 use Rattle.std.proofs.lemmas.Bool.{cases_Bool, cases_lt, eqb-false, or_parts, or_left, or_right}
 use Rattle.pd_kinds.specs.declared.rule.Rule.{Rule}
-use Rattle.pd_kinds.specs.declared.rule.Rule.TheVariants as r
-use Rattle.pd_kinds.specs.Rule.{all_rules}
-use Rattle.pd_kinds.specs.RuleSet.{Test, failing, alone}
-use Rattle.pd_kinds.specs.Checksum.{has_checksum}
-use Rattle.pd_kinds.specs.Edge.{Edge, is_outside, has_edge_outside}
+use Rattle.pd_kinds.specs.Rule.{all_rules, Test, failing, alone}
+use Rattle.pd_kinds.specs.Field.{has_checksum}
+use Rattle.pd_kinds.specs.Graph.{Edge, is_outside, has_edge_outside, Graph, block_at, pair, block_of, role_of, next, own_keys, is_inner_pair, is_reached, children, has_chain, gathered, keys_below, are_children_in_range, is_in_range, is_deep}
 use Rattle.pd_kinds.specs.Node.{Entry, node_salt, node_tests, node_bad, node_keys, entry_count, key_at, value_at, child_at, is_inner_node}
-use Rattle.pd_kinds.specs.Graph.{Graph, block_at, pair, block_of, role_of, next, own_keys, is_inner_pair, is_reached}
 use Rattle.pd_kinds.specs.Layout.{Layout, Tree, graph_of, is_bad, layout_bad, is_tree_layout, tree_edges, tree_tests, tree_bad, node_entries_of, leaf_entries}
 use Rattle.pd_kinds.specs.Layout.Layout.{tree}
-use Rattle.pd_kinds.specs.Order.{children, has_chain, gathered, keys_below, are_children_in_range, is_in_range, is_deep}
 use Rattle.pd_kinds.specs.Paths.{edge}
 use Rattle.pd_kinds.specs.Stages.{IsReached}
-use Rattle.pd_laws.specs.InOrder.{AreInOrder}
-use Rattle.pd_laws.proofs.AllLemmas.{all_from, all_from_two, all_map, all_of, none_passes}
-use Rattle.pd_laws.proofs.SoundLemmas.{IsSound, tests_after_one, inside_from}
-use Rattle.pd_laws.proofs.PathLemmas.{path_from_reached, reached_from_path, passes_below}
+use Rattle.pd_kinds.specs.InOrder.{AreInOrder}
+use Rattle.pd_kinds.proofs.ListLemmas.{all_from, all_from_two, all_map, all_of, none_passes}
+use Rattle.pd_kinds.proofs.SoundLemmas.{IsSound, tests_after_one, inside_from}
+use Rattle.pd_kinds.proofs.PathLemmas.{path_from_reached, reached_from_path, passes_below}
 use Rattle.pd_kinds.specs.Trees.{entries_below}
 use Rattle.pd_kinds.proofs.FieldLemmas.{le-lt}
 use Rattle.pd_kinds.specs.Image.{HasBytes}
-use Rattle.pd_laid.specs.Salvage.{is_damaged, child_low, child_high, salvaged_entries}
-use Rattle.pd_laid.specs.Visits.{Visit, entries_of_visit, visited, visits}
-use Rattle.pd_laid.proofs.GatherLemmas.{AreFrom, AreBelow, from_test, below_test, kept_in_range, all_first, all_last, all_at, all_joined, same_joined, same_each, map_joined, gathered_flat, gathered_leaf, gathered_inner, stable, child_range}
-use Rattle.pd_laid.proofs.VisitLemmas.{visits_give}
+use Rattle.pd_kinds.proofs.KindsListLemmas.{all_first, all_last, any-map}
+use Rattle.pd_kinds.proofs.NumberLemmas.{both_hold}
+use Rattle.pd_kinds.specs.declared.rule.Rule.TheVariants as r
+use Rattle.pd_laid.specs.Salvage.{is_damaged, child_low, child_high, salvaged_entries, Visit, entries_of_visit, visited, visits}
+use Rattle.pd_laid.proofs.GatherLemmas.{AreFrom, AreBelow, from_test, below_test, kept_in_range, all_at, all_joined, same_joined, same_each, map_joined, gathered_flat, gathered_leaf, gathered_inner, stable, child_range, visits_give}
 
 -- no element passes
 pub none_pass : {X : Type 0} → (p : X → Bool) (xs : List X) → ((x : X) → p x ≡ false) → list_any p xs ≡ false
 none_pass p [] fails = refl
 none_pass p (x ∷ xs) fails = rw (fails x, none_pass p xs fails) refl
-
--- of mapped elements
-pub any-map : {X Y : Type 0} → (p : Y → Bool) (f : X → Y) (xs : List X) → list_any p (map f xs) ≡ list_any (λ x. p (f x)) xs
-any-map p f [] = refl
-any-map p f (x ∷ xs) = ap (λ (b : Bool). p (f x) || b) (any-map p f xs)
 
 -- a number below n doesn't pass where none does
 pub none_at : (p : ℕ → Bool) (a n k : ℕ) → list_any p (range_with_len a n) ≡ false → a ≤ k → k < a + n → p k ≡ false
@@ -51,7 +43,7 @@ none_at p a (suc n) k none from below =
       | inr here ↦ let same : a ≡ k = omega arith in rw same at parts.0
     ]
 
-map-map : {X Y Z : Type 0} → (f : Y → Z) (g : X → Y) (xs : List X) → map f (map g xs) ≡ map (λ x. f (g x)) xs
+pub map-map : {X Y Z : Type 0} → (f : Y → Z) (g : X → Y) (xs : List X) → map f (map g xs) ≡ map (λ x. f (g x)) xs
 map-map f g [] = refl
 map-map f g (x ∷ xs) = rw (map-map f g xs) refl
 
@@ -100,9 +92,6 @@ role_pair b role few = omega arith
 
 pub block_pair : (b role : ℕ) → role < 16 → block_of (pair b role) ≡ b
 block_pair b role few = omega arith
-
-both_hold : (is_tree bad inner : Bool) → is_tree ≡ true → bad ≡ false → (is_tree && (not bad && inner)) ≡ inner
-both_hold is_tree bad inner is clean = rw (is, clean) refl
 
 -- the entries below a node are those of its leaves
 pub leaves_entries : (size : ℕ) (graph : Graph) (image : List (List ℕ)) (role b : ℕ)
@@ -209,10 +198,6 @@ module _ (roles nr data_blocks : ℕ) (layout : ℕ → Layout) (image : List (L
     -- the keys and the entries below a node, and the chains of children that start at it
     abbrev pub keys_under : ℕ → ℕ → List ℕ
     keys_under j b = gathered (is_inner_pair graph image) (children graph image) (own_keys graph image) j (pair b role)
-
-    abbrev pub entries_under : ℕ → ℕ → List Entry
-    entries_under j b =
-        gathered (is_inner_pair graph image) (children graph image) (λ p. leaf_entries t.size (block_at image (block_of p))) j (pair b role)
 
     abbrev pub HasNoChain : ℕ → ℕ → Type 0
     HasNoChain j b = has_chain (children graph image) j (pair b role) ≡ false

@@ -5,12 +5,11 @@ use Rattle.std.proofs.lemmas.List.FromFn.{length-map-range_with_len}
 use Rattle.pd_kinds.specs.Layout.{Tree, tree_to, plain_tree}
 use Rattle.pd_kinds.specs.Node.{Entry}
 use Rattle.pd_kinds.specs.Bitmap.{bitmaps_for}
-use Rattle.pd_kinds.specs.Value.{details_code}
-use Rattle.pd_laid.specs.Laid.{tree_of}
-use Rattle.pd_laid.specs.Map.{index_items, index_entry_of}
+use Rattle.pd_kinds.specs.Field.{details_code}
+use Rattle.pd_grammar.specs.Need.{need_tree}
+use Rattle.pd_laid.specs.Laid.{tree_of, index_items, index_entry_of}
 use Rattle.pd_laid.specs.Shape.{ShapeDevice, ThinShape}
 use Rattle.pd_laid.specs.LaidThin.{shared_items, laid_device, top_items, details_items, mappings, devices_at, device_blocks, tops_at, tops, top_blocks, details_at, details_blocks, data_counts, bitmaps_at, bitmap_blocks, index_at, data_index, index_blocks, overflow_at, data_overflow, overflow_blocks, pool_parts, meta_map_at}
-use Rattle.pd_spells.specs.Need.{need_tree}
 use Rattle.pd_laid.proofs.NeedLemmas.{length-tree, length-bitmaps}
 
 tops_number : (t : Tree) (leaves : List (List Entry)) (place : ℕ) (devices : List ShapeDevice) → length (top_items t leaves place devices) ≡ length devices
@@ -18,12 +17,12 @@ unfolding top_items
 tops_number t leaves place [] = refl
 tops_number t leaves place (d ∷ devices) = ap suc (tops_number t leaves (place + length (laid_device t leaves place d)) devices)
 
-details_number : (devices : List ShapeDevice) → length (details_items devices) ≡ length devices
+pub details_number : (devices : List ShapeDevice) → length (details_items devices) ≡ length devices
 unfolding details_items
 details_number devices =
     length-map devices (λ (d : ShapeDevice). record { key = d.id; value = details_code d.mapped d.transaction d.created d.snapped })
 
-index_number : (counts : ℕ → ℕ) (n place : ℕ) → length (index_items counts n place) ≡ bitmaps_for n
+pub index_number : (counts : ℕ → ℕ) (n place : ℕ) → length (index_items counts n place) ≡ bitmaps_for n
 unfolding index_items
 index_number counts n place =
     length-map-range_with_len (λ (i : ℕ). record { key = i; value = index_entry_of counts n place i }) 0 (bitmaps_for n)

@@ -1,30 +1,20 @@
 -- What the inner nodes above a row name: with the root, all that the row names, and all of themselves.
-use Rattle.std.proofs.Common.{◌≡◌, inl, inr, ℕ, zero, suc, ◌+◌, ◌-◌, ◌*◌, ◌^◌, ◌<◌, ◌≤◌, nat_lt, cond, List, [], ◌∷◌, ◌++◌, length, map, refl, sym, ◌∙◌, ap, arith}
+use Rattle.std.proofs.Common.{◌≡◌, inl, inr, ℕ, zero, suc, ◌+◌, ◌-◌, ◌*◌, ◌^◌, ◌<◌, ◌≤◌, nat_lt, cond, List, [], ◌∷◌, ◌++◌, length, refl, sym, ◌∙◌, ap, arith}
 use Rattle.std.specs.List.{flat_map, range_with_len}
 use Rattle.std.proofs.lemmas.Bool.{cases_lt, lt-ltb, le-ltb}
 use Rattle.std.proofs.lemmas.List.{map-append, append_assoc, length-append}
 use Rattle.std.proofs.lemmas.Grind.{flat_map-append}
 use Rattle.pd_kinds.specs.Node.{Entry}
-use Rattle.pd_spells.specs.Need.{nodes_for}
-use Rattle.pd_laid.specs.Tree.{even_parts, first_place, heads, levels_above}
+use Rattle.pd_kinds.proofs.KindLemmas.{values_of}
+use Rattle.pd_kinds.proofs.NumberLemmas.{range_split}
+use Rattle.pd_grammar.specs.Need.{nodes_for}
+use Rattle.pd_laid.specs.Laid.{even_parts, first_place, heads, levels_above}
 use Rattle.pd_laid.proofs.NeedLemmas.{length-heads}
-use Rattle.pd_laid.proofs.SpreadLemmas.{length-spread, joined_spread}
-
--- the blocks that a row of entries names
-abbrev pub values_of : List Entry → List ℕ
-values_of row = map (λ (e : Entry). e.value) row
+use Rattle.pd_laid.proofs.LaidLemmas.{length-spread, joined_spread}
 
 -- nodes in a row, each a list of entries
 abbrev pub entries_of : List (List Entry) → List Entry
 entries_of nodes = flat_map (λ (node : List Entry). node) nodes
-
--- ranges in a row
-pub range_on : (a m n : ℕ) → range_with_len a (m + n) ≡ range_with_len a m ++ range_with_len (a + m) n
-range_on a zero n = let e : a + 0 ≡ a = omega arith in let f : 0 + n ≡ n = omega arith in rw (e, f) refl
-range_on a (suc m) n =
-    let e : a + suc m ≡ (a + 1) + m = omega arith in
-    let f : suc m + n ≡ suc (m + n) = omega arith in
-    rw (e, f) (ap (λ (rest : List ℕ). a ∷ rest) (range_on (a + 1) m n))
 
 -- what the level above says of some nodes names their places
 pub values-heads : (place : ℕ) (nodes : List (List Entry)) → values_of (heads place nodes) ≡ range_with_len place (length nodes)
@@ -116,7 +106,7 @@ row_named (suc k) place row some few = elim (cases_lt 1 (length row)) [
       ∙ (map-append (λ (e : Entry). e.value) (entries_of level) (entries_of upper)
       ∙ ap (λ (front : List Entry). values_of front ++ values_of (entries_of upper)) (level_joined row some)) in
       let named : values_of (entries_of upper) ++ (root ∷ []) ≡ range_with_len place (count + length upper) =
-      above ∙ (ap (λ (front : List ℕ). front ++ range_with_len (place + count) (length upper)) (values-heads place level) ∙ sym (range_on place count (length upper))) in
+      above ∙ (ap (λ (front : List ℕ). front ++ range_with_len (place + count) (length upper)) (values-heads place level) ∙ sym (range_split place count (length upper))) in
       rw (root_more k place row many, levels_more k place row many)
       (ap (λ (front : List ℕ). front ++ (root ∷ [])) split
       ∙ (append_assoc (values_of row) (values_of (entries_of upper)) (root ∷ [])

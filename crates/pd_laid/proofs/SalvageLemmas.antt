@@ -8,28 +8,26 @@ use Rattle.std.proofs.lemmas.Bool.{cases_Bool, both_ways, and_cases, or_parts, e
 use Rattle.pd_kinds.specs.declared.kind.Kind.TheVariants.{Thin}
 use Rattle.pd_kinds.specs.declared.kind.Stage.TheVariants.{Whole}
 use Rattle.pd_kinds.specs.declared.rule.Rule.{Rule}
-use Rattle.pd_kinds.specs.declared.rule.Rule.TheVariants as r
 use Rattle.pd_kinds.specs.Rule.{number_of, same_rule, all_rules}
-use Rattle.pd_kinds.specs.Edge.{Edge, is_outside, optional_edge}
+use Rattle.pd_kinds.specs.Graph.{Edge, is_outside, optional_edge, Graph, block_at, pair, next, is_reached, edges_of}
 use Rattle.pd_kinds.specs.Node.{Entry}
-use Rattle.pd_kinds.specs.Graph.{Graph, block_at, pair, next, is_reached, edges_of}
 use Rattle.pd_kinds.specs.Layout.{Layout, Tree, tree, tree_to, plain_tree, graph_of, is_bad, layout_bad, leaf_entries}
-use Rattle.pd_kinds.specs.ThinSuper.{ThinFields, thin_fields, thin_super_edges}
-use Rattle.pd_kinds.specs.ThinFormat.{thin_graph, thin_layout, mappings_tree, mapped_block, mapped_time}
+use Rattle.pd_kinds.specs.ThinFormat.{ThinFields, thin_fields, thin_super_edges, thin_graph, thin_layout, mappings_tree, mapped_block, mapped_time}
 use Rattle.pd_kinds.specs.Trees.{entries_below, keys_of, value_of_key}
 use Rattle.pd_kinds.specs.Whole.{WholeTest, whole_bad, top_entries, mapping_entries, details_entries, mapped_number, mapped_tests, device_test, thin_roots, thin_whole, bitmap_tests, roots_in}
 use Rattle.pd_kinds.specs.Meaning.{Mapping, thin_device, thin_meaning}
 use Rattle.pd_kinds.specs.Lawful.{IsLawful, IsWithin}
 use Rattle.pd_kinds.specs.Stages.{IsReached, faults, thin_checked}
-use Rattle.pd_laws.specs.InOrder.{AreInOrder}
-use Rattle.pd_laws.proofs.AllLemmas.{all_from, all_from_two, none_passes}
-use Rattle.pd_laws.proofs.CleanLemmas.{whole_where_none}
-use Rattle.pd_laws.proofs.SoundLemmas.{inside_from}
-use Rattle.pd_laws.proofs.PathLemmas.{reached_start}
-use Rattle.pd_laid.specs.Laid.{tree_of}
+use Rattle.pd_kinds.specs.InOrder.{AreInOrder}
+use Rattle.pd_kinds.proofs.ListLemmas.{all_from, all_from_two, none_passes}
+use Rattle.pd_kinds.proofs.CleanLemmas.{whole_where_none}
+use Rattle.pd_kinds.proofs.SoundLemmas.{inside_from}
+use Rattle.pd_kinds.proofs.PathLemmas.{reached_start}
 use Rattle.pd_kinds.specs.Image.{HasBytes}
+use Rattle.pd_kinds.proofs.KindsListLemmas.{all_first, all_last}
+use Rattle.pd_kinds.specs.declared.rule.Rule.TheVariants as r
+use Rattle.pd_laid.specs.Laid.{tree_of}
 use Rattle.pd_laid.specs.Salvage.{salvaged_entries, salvaged_mappings, salvaged_device, salvage_from, salvage}
-use Rattle.pd_laid.proofs.GatherLemmas.{all_first, all_last}
 use Rattle.pd_laid.proofs.NodeFacts.{all_parts, among_mapped, none_pass, reached_next, given_root, under_all, leaf_named, within_at, block_pair}
 
 -- a filter that all pass keeps all
@@ -38,7 +36,7 @@ filter_all p [] all = refl
 filter_all p (x ∷ xs) all = rw (all.0, filter_all p xs all.1) refl
 
 -- what is made of each element in two ways
-same_made : {X Y : Type 0} → (f g : X → Y) (xs : List X) → AllByRecursion (λ x. f x ≡ g x) xs → map f xs ≡ map g xs
+pub same_made : {X Y : Type 0} → (f g : X → Y) (xs : List X) → AllByRecursion (λ x. f x ≡ g x) xs → map f xs ≡ map g xs
 same_made f g [] all = refl
 same_made f g (x ∷ xs) all = rw (all.0, same_made f g xs all.1) refl
 
@@ -84,7 +82,7 @@ bottom_tree data_blocks = tree_of (mappings_tree data_blocks)
 abbrev pub details_tree : Tree
 details_tree = tree_of (plain_tree 24)
 
-top_is : (nr data_blocks : ℕ) → thin_layout nr data_blocks 2 ≡ tree top_tree
+pub top_is : (nr data_blocks : ℕ) → thin_layout nr data_blocks 2 ≡ tree top_tree
 unfolding thin_layout
 top_is nr data_blocks = refl
 
@@ -92,7 +90,7 @@ pub bottom_is : (nr data_blocks : ℕ) → thin_layout nr data_blocks 3 ≡ tree
 unfolding thin_layout
 bottom_is nr data_blocks = refl
 
-details_is : (nr data_blocks : ℕ) → thin_layout nr data_blocks 4 ≡ tree details_tree
+pub details_is : (nr data_blocks : ℕ) → thin_layout nr data_blocks 4 ≡ tree details_tree
 unfolding thin_layout
 details_is nr data_blocks = refl
 
@@ -170,7 +168,7 @@ module _ (fields : ThinFields) (image : List (List ℕ))
       rw (given_all_details fields.details_root details, mappings, is.found, number, is.known) refl
 
 -- a fact on a mapped list holds of the elements
-all_unmapped : {X Y : Type 0} → (f : X → Y) (P : Y → Type 0) (xs : List X) → AllByRecursion P (map f xs) → AllByRecursion (λ x. P (f x)) xs
+pub all_unmapped : {X Y : Type 0} → (f : X → Y) (P : Y → Type 0) (xs : List X) → AllByRecursion P (map f xs) → AllByRecursion (λ x. P (f x)) xs
 all_unmapped f P [] all = tt
 all_unmapped f P (x ∷ xs) all = (all.0, all_unmapped f P xs all.1)
 

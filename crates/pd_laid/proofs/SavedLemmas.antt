@@ -2,9 +2,8 @@
 use Rattle.std.proofs.Common.{◌≡◌, ◌⊎◌, ◌↔◌, inl, inr, ℕ, zero, suc, ◌+◌, ◌<◌, ◌≤◌, Bool, true, false, not, ◌&&◌, nat_eq, nat_lt, List, [], ◌∷◌, ◌++◌, filter, refl, arith}
 use Rattle.std.specs.List.{flat_map, range_with_len}
 use Rattle.std.proofs.lemmas.Bool.{cases_Bool, cases_lt, and_parts, and_from, not-true, ltb-true, ltb-false, lt-ltb, le-ltb, eqb-true, eqb-false, not_from_false}
-use Rattle.pd_kinds.specs.Edge.{is_outside}
+use Rattle.pd_kinds.specs.Graph.{is_outside, block_at}
 use Rattle.pd_kinds.specs.Node.{Entry, entry_count, child_at, is_inner_node}
-use Rattle.pd_kinds.specs.Graph.{block_at}
 use Rattle.pd_kinds.specs.Layout.{leaf_entries}
 use Rattle.pd_laid.specs.Salvage.{is_damaged, child_low, child_high, salvaged_below}
 use Rattle.pd_laid.specs.Saved.{ContainsEntry, IsWhole, IsInChild, IsSaved, in_leaf, in_child}

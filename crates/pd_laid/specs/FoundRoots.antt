@@ -6,9 +6,7 @@ use Rattle.std.specs.List.{list_any, list_all, flat_map}
 use Rattle.std.specs.Str.{bytes_eq}
 use Rattle.pd_kinds.specs.declared.limits.TheConstants.{MAX_META_BLOCKS}
 use Rattle.pd_kinds.specs.Rule.{all_rules}
-use Rattle.pd_kinds.specs.Edge.{is_outside}
-use Rattle.pd_kinds.specs.Graph.{Graph, block_at, pair, block_of, role_of, is_inner_pair, nodes_from}
-use Rattle.pd_kinds.specs.Order.{is_deep, is_in_range}
+use Rattle.pd_kinds.specs.Graph.{is_outside, Graph, block_at, pair, block_of, role_of, is_inner_pair, nodes_from, is_deep, is_in_range}
 use Rattle.pd_kinds.specs.Layout.{graph_of}
 use Rattle.pd_kinds.specs.ThinFormat.{thin_layout}
 use Rattle.pd_kinds.specs.Trees.{keys_of}

@@ -6,10 +6,7 @@ use Rattle.std.specs.List.{find, range_with_len}
 use Rattle.pd_kinds.specs.Layout.{tree_to}
 use Rattle.pd_kinds.specs.CacheFormat.{CacheFields, cache_super_block, has_dirty_bits}
 use Rattle.pd_kinds.specs.Meaning.{CacheEntry, CacheMeaning}
-use Rattle.pd_laid.specs.Tree.{tree_root}
-use Rattle.pd_laid.specs.Laid.{LaidBlock, Laid, named_by, tree_of, laid_tree}
-use Rattle.pd_laid.specs.Array.{laid_array, array_root}
-use Rattle.pd_laid.specs.Map.{laid_meta_map, meta_overflow_root}
+use Rattle.pd_laid.specs.Laid.{tree_root, LaidBlock, Laid, named_by, tree_of, laid_tree, laid_array, array_root, laid_meta_map, meta_overflow_root}
 
 -- the entry of a cache block, where it is valid
 unfoldable pub entry_of : CacheMeaning → ℕ → Option CacheEntry

@@ -4,10 +4,7 @@
 use Rattle.std.specs.Prelude.{ℕ, ◌+◌, List, [], ◌∷◌, ◌++◌, length}
 use Rattle.pd_kinds.specs.EraFormat.{EraFields, writesets_tree, era_super_block}
 use Rattle.pd_kinds.specs.Meaning.{EraMeaning}
-use Rattle.pd_laid.specs.Tree.{tree_root}
-use Rattle.pd_laid.specs.Laid.{LaidBlock, Laid, named_by, tree_of, laid_tree}
-use Rattle.pd_laid.specs.Array.{laid_array, array_root}
-use Rattle.pd_laid.specs.Map.{laid_meta_map, meta_overflow_root}
+use Rattle.pd_laid.specs.Laid.{tree_root, LaidBlock, Laid, named_by, tree_of, laid_tree, laid_array, array_root, laid_meta_map, meta_overflow_root}
 
 -- the era array, from block 1 on
 unfoldable pub era_blocks : EraMeaning → List LaidBlock

@@ -5,14 +5,11 @@ use Rattle.std.specs.Prelude.{ℕ, ◌+◌, ◌%◌, ◌^◌, ◌==◌, not, Lis
 use Rattle.std.specs.List.{count_by, flat_map, range_with_len, slice_get}
 use Rattle.std.specs.Option.{unwrap_or}
 use Rattle.pd_kinds.specs.Node.{Entry}
-use Rattle.pd_kinds.specs.Value.{mapping_code, details_code}
+use Rattle.pd_kinds.specs.Field.{mapping_code, details_code}
 use Rattle.pd_kinds.specs.Layout.{Tree, plain_tree, tree_to}
-use Rattle.pd_kinds.specs.ThinSuper.{ThinFields, thin_super_block}
-use Rattle.pd_kinds.specs.ThinFormat.{mappings_tree}
+use Rattle.pd_kinds.specs.ThinFormat.{ThinFields, thin_super_block, mappings_tree}
 use Rattle.pd_kinds.specs.Meaning.{Mapping, ThinPool}
-use Rattle.pd_laid.specs.Tree.{tree_leaves, first_key, heads, inners_above, root_above, tree_root}
-use Rattle.pd_laid.specs.Laid.{LaidBlock, Laid, named_by, data_named_by, count_in, tree_of, laid_leaf, laid_inner, laid_tree}
-use Rattle.pd_laid.specs.Map.{laid_bitmaps, index_items, overflow_items, laid_meta_map, meta_overflow_root}
+use Rattle.pd_laid.specs.Laid.{tree_leaves, first_key, heads, inners_above, root_above, tree_root, LaidBlock, Laid, named_by, data_named_by, count_in, tree_of, laid_leaf, laid_inner, laid_tree, laid_bitmaps, index_items, overflow_items, laid_meta_map, meta_overflow_root}
 use Rattle.pd_laid.specs.Shape.{Piece, own, shared, ShapeDevice, ThinShape, shape_of}
 
 -- the entries of mappings

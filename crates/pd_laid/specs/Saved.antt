@@ -1,9 +1,8 @@
 -- Which entries of a damaged tree are saved, as a relation: those in a leaf that ends a path of undamaged nodes, which
 -- lie in every range on that path.
 use Rattle.std.specs.Prelude.{◌≡◌, ◌⊎◌, ℕ, suc, ◌+◌, ◌<◌, ◌≤◌, true, false, List, [], ◌∷◌}
-use Rattle.pd_kinds.specs.Edge.{is_outside}
+use Rattle.pd_kinds.specs.Graph.{is_outside, block_at}
 use Rattle.pd_kinds.specs.Node.{Entry, entry_count, key_at, child_at, is_inner_node}
-use Rattle.pd_kinds.specs.Graph.{block_at}
 use Rattle.pd_kinds.specs.Layout.{leaf_entries}
 use Rattle.pd_laid.specs.Salvage.{is_damaged}
 

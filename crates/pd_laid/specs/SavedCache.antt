@@ -6,10 +6,9 @@ use Rattle.std.specs.List.{list_any, filter_map, range_with_len}
 use Rattle.std.specs.Option.{option_and_then, unwrap_or}
 use Rattle.std.specs.Int.{bit_at}
 use Rattle.pd_kinds.specs.Rule.{all_rules}
-use Rattle.pd_kinds.specs.Edge.{is_outside}
+use Rattle.pd_kinds.specs.Graph.{is_outside, block_at}
 use Rattle.pd_kinds.specs.Node.{Entry}
 use Rattle.pd_kinds.specs.Array.{array_bad, max_words, word_at, word_count}
-use Rattle.pd_kinds.specs.Graph.{block_at}
 use Rattle.pd_kinds.specs.Trees.{value_of_key}
 use Rattle.pd_kinds.specs.CacheFormat.{CacheFields, cache_fields, has_dirty_bits}
 use Rattle.pd_kinds.specs.Whole.{is_valid_word, is_dirty_word, origin_of_word}

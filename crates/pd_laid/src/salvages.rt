@@ -8,11 +8,10 @@ ghost use Rattle.pd_kinds.specs.Meaning.{thin_meaning};
 ghost use Rattle.pd_kinds.specs.Node.{Entry};
 ghost use Rattle.pd_kinds.specs.Stages.{faults};
 ghost use Rattle.pd_kinds.specs.Image.{HasBytes};
-ghost use Rattle.pd_laid.specs.Salvage.{salvaged_below, salvage};
+ghost use Rattle.pd_laid.specs.Salvage.{salvaged_below, salvage, entries_of_visit, visits};
 ghost use Rattle.pd_laid.specs.Saved.{ContainsEntry, IsSaved};
-ghost use Rattle.pd_laid.specs.Visits.{entries_of_visit, visits};
 
-use pd_laws::trees_are_in_order;
+use pd_kinds::trees_are_in_order;
 
 /// Of a pool without faults up to the stage Whole all is saved: the salvage is its meaning.
 pub fn sound_pool_is_saved()
@@ -24,12 +23,14 @@ pub fn sound_pool_is_saved()
 /// The entries that are given below a node, in a range of keys, are those of the visits there, one visit after another.
 pub fn given_are_visited()
     ensures { (size nr : ℕ) (image : List (List ℕ)) (nodes place low high : ℕ)
-        → flat_map (entries_of_visit size image) (visits size nr image nodes place low high) ≡ salvaged_below size nr image nodes place low high }
+        → flat_map (entries_of_visit size image) (visits size nr image nodes place low high)
+        ≡ salvaged_below size nr image nodes place low high }
 {}
 
 /// The entries that are given below a node, in a range of keys, are those of the range that a path of at most
 /// so many undamaged nodes ends at, and that lie in the range of each child on that path.
 pub fn given_are_saved()
     ensures { (size nr : ℕ) (image : List (List ℕ)) (nodes place low high : ℕ) (e : Entry)
-        → ContainsEntry (salvaged_below size nr image nodes place low high) e ↔ (IsSaved size nr image nodes place e × ((low ≤ e.key) × (e.key < high))) }
+        → ContainsEntry (salvaged_below size nr image nodes place low high) e
+        ↔ (IsSaved size nr image nodes place e × ((low ≤ e.key) × (e.key < high))) }
 {}

@@ -1,3 +1,2 @@
-pub mod Treeless
-pub mod NodeRules
 pub mod Rows
+pub mod NodeRules

@@ -5,13 +5,14 @@ use Rattle.std.proofs.lemmas.List.Concat.{flat_map_single}
 use Rattle.std.proofs.lemmas.List.FromFn.{length-map-range_with_len, get_or-map-range_with_len}
 use Rattle.std.proofs.lemmas.Option.{slice_get-get_or}
 use Rattle.std.proofs.lemmas.Simd.{map-map}
-use Rattle.pd_kinds.specs.Edge.{Edge, edge_of}
+use Rattle.std.proofs.lemmas.Bool.{both_ways}
+use Rattle.pd_kinds.specs.Graph.{Edge, edge_of}
 use Rattle.pd_kinds.specs.Bitmap.{bitmaps_for, index_block_at, index_blocks}
 use Rattle.pd_kinds.specs.Node.{Entry, child_at, entry_count, is_inner_node, key_at, value_at}
-use Rattle.pd_kinds.specs.Layout.{tree, layout_data, node_entries_of, leaf_entries, tree_edges}
-use Rattle.pd_layouts.specs.declared.names.Names.{Names}
-use Rattle.pd_layouts.specs.declared.names.Names.TheVariants.{Nothing, Metadata, MetadataByEra, Data}
-use Rattle.pd_layouts.specs.Names.{edges_named, data_named, leaf_tree, if_metadata, if_data, role_named}
+use Rattle.pd_kinds.specs.Layout.{tree, layout_data, node_entries_of, leaf_entries, tree_edges, Layout, is_tree_layout, layout_keys}
+use Rattle.pd_layouts.specs.declared.layout.Names.{Names}
+use Rattle.pd_layouts.specs.declared.layout.Names.TheVariants.{Nothing, Metadata, MetadataByEra, Data}
+use Rattle.pd_layouts.specs.Layout.{edges_named, data_named, leaf_tree, if_metadata, if_data, role_named}
 
 -- how many metadata blocks a node names, and the one that entry i names
 abbrev pub edge_number : ℕ → Names → List ℕ → ℕ
@@ -182,3 +183,13 @@ pub index_found : (role nr : ℕ) (block : List ℕ) (i : ℕ) (edge : Edge) →
 index_found role nr block i edge within same =
     rw (index_row role nr block, same)
     (slice_get-row (λ i. edge_of role (index_block_at block i)) (bitmaps_for nr) i (below_index role nr block i within))
+
+-- Outside a tree a block has no keys, and names no data blocks.
+
+pub no_keys : (layout : Layout) (block : List ℕ) → is_tree_layout layout ≡ false → layout_keys layout block ≡ []
+no_keys (tree t) block none = absurd (both_ways true none refl)
+no_keys _ block none = refl
+
+pub no_data : (layout : Layout) (block : List ℕ) → is_tree_layout layout ≡ false → layout_data layout block ≡ []
+no_data (tree t) block none = absurd (both_ways true none refl)
+no_data _ block none = refl

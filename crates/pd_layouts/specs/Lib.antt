@@ -1,5 +1,1 @@
-pub mod Contents
 pub mod Layout
-pub mod LeafValue
-pub mod Names
-pub mod Roles

@@ -3,15 +3,8 @@
 #![tactic(auto)]
 
 mod layout;
-mod leaf_value;
-mod names;
-mod rules;
-mod table;
 mod tabled;
 mod tree;
 
-pub use layout::Layout;
-pub use leaf_value::LeafValue;
-pub use names::Names;
-pub use table::Table;
+pub use layout::{Layout, LeafValue, Names, Table};
 pub use tabled::Tabled;

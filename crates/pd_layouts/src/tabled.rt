@@ -1,21 +1,18 @@
 //! The format that a table gives.
 
-ghost use Rattle.pd_kinds.specs.declared.limits.TheConstants.{MAX_META_BLOCKS};
 ghost use Rattle.std.specs.Prelude.{◌≡◌, ℕ, ◌<◌, ◌≤◌, IfNone, IfSome, Some, false, length, slice_get};
+ghost use Rattle.pd_kinds.specs.declared.limits.TheConstants.{MAX_META_BLOCKS};
 ghost use Rattle.pd_kinds.specs.declared.rule.Rule.{Rule as BrokenRule};
-ghost use Rattle.pd_kinds.specs.RuleSet.{has_rule};
+ghost use Rattle.pd_kinds.specs.Rule.{has_rule};
 ghost use Rattle.pd_kinds.specs.Bitmap.{bitmaps_for, index_block_at};
-ghost use Rattle.pd_kinds.specs.Edge.{edge_of};
+ghost use Rattle.pd_kinds.specs.Graph.{edge_of};
 ghost use Rattle.pd_kinds.specs.Layout.{graph_of, is_tree_layout, layout_bad, layout_edges, tree};
-ghost use Rattle.pd_layouts.specs.Layout.{layout_of};
-ghost use Rattle.pd_layouts.specs.LeafValue.{tree_of};
+ghost use Rattle.pd_layouts.specs.Layout.{layout_of, tree_of};
 
-use crate::layout::Layout;
-use crate::leaf_value::LeafValue;
-use crate::names::Names;
-use crate::rules::tree_rules;
-use crate::table::Table;
-use crate::tree::{data_count, data_of_node, edge_count, edge_of_node, key_count, key_of};
+use crate::layout::{Layout, LeafValue, Names, Table};
+use crate::tree::{
+    data_count, data_of_node, edge_count, edge_of_node, key_count, key_of, tree_rules,
+};
 use pd_array::array_rules;
 use pd_bitmap::{bitmap_rules, index_entry, index_rules};
 use pd_graph::Format;
@@ -47,7 +44,8 @@ impl<T: Table> Tabled<T> {
         requires some { 1 ≤ T.meta_blocks_of s.now }
         requires few { T.meta_blocks_of s.now ≤ MAX_META_BLOCKS }
         ensures { ⟦<Tabled<T> as Format>⟧.graph result
-            ≡ graph_of T.ROLES (T.meta_blocks_of s.now) (T.data_blocks_of s.now) (T.layout (T.meta_blocks_of s.now) (T.data_blocks_of s.now)) }
+            ≡ graph_of T.ROLES (T.meta_blocks_of s.now) (T.data_blocks_of s.now)
+            (T.layout (T.meta_blocks_of s.now) (T.data_blocks_of s.now)) }
     {
         Tabled {
             nr: T::meta_blocks_of(s),
@@ -58,8 +56,8 @@ impl<T: Table> Tabled<T> {
 }
 
 impl<T: Table> Format for Tabled<T> {
-    ghost use Rattle.pd_layouts.specs.Roles.{roles_of_graph};
-    ghost use Rattle.pd_layouts.specs.Contents.{contents_of, contents_told};
+    ghost use Rattle.pd_layouts.specs.Layout.{roles_of_graph};
+    ghost use Rattle.pd_layouts.specs.Layout.{contents_of, contents_told};
 
     const ROLES: u8 = T::ROLES;
 

@@ -1,7 +1,7 @@
 -- With which number a line that can't be read is told.
 use Rattle.std.specs.Prelude.{◌≡◌, ℕ}
-use Rattle.pd_lines.specs.declared.fault.LineFault.{LineFault}
-use Rattle.pd_lines.specs.declared.fault.LineFault.TheVariants.{Source, TooLong, NotText, Unended}
+use Rattle.pd_lines.specs.declared.reader.LineFault.{LineFault}
+use Rattle.pd_lines.specs.declared.reader.LineFault.TheVariants.{Source, TooLong, NotText, Unended}
 
 -- the line that is refused has this number
 abbrev pub IsNumbered : ℕ → LineFault → Type 0

@@ -1,12 +1,11 @@
 -- What a reader of lines has and gives.
 use Rattle.std.specs.Prelude.{◌≡◌, ℕ, ◌+◌, ◌-◌, ◌^◌, ◌≤◌, min, Bool, true, false, List, [], ◌∷◌, ◌++◌, length, take, drop, Option, Some, None, Result, Ok, Err}
 use Rattle.std.specs.List.{list_all}
-use Rattle.pd_grammar.specs.Words.{is_printable}
-use Rattle.pd_lines.specs.Moves.{IsUnbroken}
-use Rattle.pd_lines.specs.LineText.{LineText}
+use Rattle.pd_grammar.specs.Texts.{is_printable}
+use Rattle.pd_lines.specs.Front.{IsUnbroken, LineText}
 use Rattle.pd_lines.specs.declared.reader.LineReader.{LineReader}
-use Rattle.pd_lines.specs.declared.fault.LineFault.{LineFault}
-use Rattle.pd_lines.specs.declared.fault.LineFault.TheVariants.{Source, TooLong, NotText, Unended}
+use Rattle.pd_lines.specs.declared.reader.LineFault.{LineFault}
+use Rattle.pd_lines.specs.declared.reader.LineFault.TheVariants.{Source, TooLong, NotText, Unended}
 
 -- what was taken and not yet read
 abbrev pub held_of : LineReader → List ℕ

@@ -1,8 +1,11 @@
 //! A line that is put together in a buffer.
 
-ghost use Rattle.std.specs.Prelude.{◌≡◌, ℕ, ◌+◌, ◌≤◌, ◌++◌, List, [], length, take, decimal};
+ghost use Rattle.std.specs.Prelude.{◌≡◌, ℕ, ◌+◌, ◌≤◌, ◌++◌, List, [], length, take, decimal, OnOk};
+ghost use Rattle.pd_kinds.specs.Objects.{CountsFault, Appends, AppendsFront};
+ghost use Rattle.pd_image.specs.Sink.{KeepsSink};
 
-use crate::number::write_number;
+use itoa::{Buffer, write_digits};
+use pd_image::{Failed, Sink};
 use std::marker::Model;
 
 /// The greatest number of bytes of a line, without its line feed.
@@ -72,7 +75,7 @@ impl<const N: usize> TextBuffer<N> {
     }
 
     /// How many bytes can still be added.
-    pub(crate) fn room(&self) -> usize
+    pub(crate) fn free(&self) -> usize
         ensures { result + length self.now ≡ N }
     {
         N - self.len
@@ -85,4 +88,66 @@ impl<const N: usize> TextBuffer<N> {
     {
         &self.bytes[..self.len]
     }
+}
+
+// A number, put in decimal.
+
+/// Puts the number in decimal, without leading zeros.
+pub fn put_number<K: Sink>(number: u128, out: &mut K) -> Result<(), Failed>
+    requires { (K.state out.old).access ≡ 1 }
+    ensures whole { OnOk result (Appends (decimal number) (K.state out.old).written (K.state out.new).written) }
+    ensures front { AppendsFront (decimal number) (K.state out.old).written (K.state out.new).written }
+    ensures kept { KeepsSink (K.state out.old) (K.state out.new) }
+    ensures faults { CountsFault result (K.state out.old).faults (K.state out.new).faults }
+{
+    let mut buffer = Buffer::new();
+    out.put(buffer.format(number).as_bytes())
+}
+
+/// Writes the number in decimal behind the first `len` bytes, and answers how many bytes there are then.
+pub(crate) fn write_number(bytes: &mut [u8], len: usize, number: u64) -> usize
+    requires { len + 20 ≤ length bytes.old }
+    ensures bytes { take result bytes.new ≡ take len bytes.old ++ decimal number }
+    ensures len { result ≤ len + 20 }
+{
+    let end = len + digits_of(number);
+    write_digits(number, bytes, end);
+    end
+}
+
+/// How many digits the number has in decimal, without leading zeros.
+fn digits_of(number: u64) -> usize
+    ensures digits { result ≡ length (decimal number) }
+    ensures few { result ≤ 20 }
+{
+    if number < 10 {
+        return 1;
+    }
+    number.ilog10() as usize + 1
+}
+
+// A line of a text, as it is printed.
+
+/// A line of a text.
+pub trait TextLine {
+    /// Its bytes, with its line feed.
+    ghost bytes: { Self → List ℕ };
+
+    /// Adds its bytes, with its line feed: at most 161.
+    fn add_to(&self, text: &mut PieceBuffer)
+        requires { length text.old + 161 ≤ 16384 }
+        ensures { text.new ≡ text.old ++ bytes self.now };
+}
+
+/// Puts a line. It takes no memory.
+pub fn put_line<L: TextLine, K: Sink>(line: &L, out: &mut K) -> Result<(), Failed>
+    requires { (K.state out.old).access ≡ 1 }
+    ensures whole { OnOk result (Appends (L.bytes line.now) (K.state out.old).written (K.state out.new).written) }
+    ensures front { AppendsFront (L.bytes line.now) (K.state out.old).written (K.state out.new).written }
+    ensures kept { KeepsSink (K.state out.old) (K.state out.new) }
+    ensures faults { CountsFault result (K.state out.old).faults (K.state out.new).faults }
+{
+    let mut text = PieceBuffer::new();
+    line.add_to(&mut text);
+    out.put(text.as_bytes())
 }

@@ -1,19 +1,15 @@
 //! The lines of a text, from a source.
 
-ghost use Rattle.std.specs.Prelude.{◌≡◌, ◌≢◌, ℕ, ◌<◌, ◌≤◌, ◌+◌, ◌-◌, List, [], ◌++◌, length, take, drop, Ok, Err, IfOk, IfErr, IfSome, OnOk, OnErr, true, false, Some, None};
+ghost use Rattle.std.specs.Prelude.{◌≡◌, ◌≢◌, ℕ, ◌<◌, ◌≤◌, ◌-◌, List, [], ◌++◌, length, take, Ok, Err, IfOk, IfErr, true, false, Some};
 ghost use Rattle.std.specs.List.{list_all};
 ghost use Rattle.pd_kinds.specs.Objects.{CountsFault, Rose};
-ghost use Rattle.pd_grammar.specs.Words.{is_printable};
+ghost use Rattle.pd_grammar.specs.Texts.{is_printable};
 ghost use Rattle.pd_image.specs.Source.{KeepsSource};
-ghost use Rattle.pd_lines.specs.declared.front.Front.TheVariants.{Open};
-ghost use Rattle.pd_lines.specs.Front.{IsFront};
-ghost use Rattle.pd_lines.specs.Moves.{Moves, IsUnbroken};
-ghost use Rattle.pd_lines.specs.LineText.{LineText};
+ghost use Rattle.pd_lines.specs.declared.buffer.Front.TheVariants.{Open};
+ghost use Rattle.pd_lines.specs.Front.{IsFront, Moves, IsUnbroken, LineText};
 ghost use Rattle.pd_lines.specs.Numbered.{IsNumbered};
 
-use crate::buffer::Buffer;
-use crate::fault::LineFault;
-use crate::front::{Front, front_of};
+use crate::buffer::{Buffer, Front, front_of};
 use pd_image::{Failed, Source};
 use std::alloc::{AllocError, Global};
 use std::marker::Model;
@@ -116,7 +112,8 @@ impl LineReader {
     pub fn advance<S: Source>(&mut self, source: &mut S) -> Result<bool, LineFault>
         requires { (S.state source.old).access ≡ 1 }
         ensures reads { (left : List ℕ) → (S.state source.old).left ≡ Some left
-            → Reads (answered (lines_of self.new) (line_of self.new) result) (next_number self.old) (held_of self.old ++ left) (held_of self.new) (S.state source.new).left }
+            → Reads (answered (lines_of self.new) (line_of self.new) result)
+            (next_number self.old) (held_of self.old ++ left) (held_of self.new) (S.state source.new).left }
         ensures counted { (result ≢ Err LineFault.Source) → lines_of self.new ≡ next_number self.old }
         ensures onward { lines_of self.old ≤ lines_of self.new }
         ensures numbered { IfErr result (IsNumbered (next_number self.old)) }
@@ -168,7 +165,8 @@ fn take_front<S: Source>(buffer: &mut Buffer, source: &mut S) -> Result<Front, F
     requires { (S.state source.old).access ≡ 1 }
     ensures moved { Moves buffer.old buffer.new (S.state source.old).left (S.state source.new).left }
     ensures front { IfOk result (λ front. IsFront buffer.new front) }
-    ensures end { IfOk result (λ front. front ≡ Open → length buffer.new ≤ 160 → (left : List ℕ) → (S.state source.old).left ≡ Some left → (S.state source.new).left ≡ Some []) }
+    ensures end { IfOk result (λ front. front ≡ Open → length buffer.new ≤ 160
+        → (left : List ℕ) → (S.state source.old).left ≡ Some left → (S.state source.new).left ≡ Some []) }
     ensures kept { KeepsSource (S.state source.old) (S.state source.new) }
     ensures faults { CountsFault result (S.state source.old).faults (S.state source.new).faults }
 {
@@ -201,4 +199,20 @@ fn end_of(held: &[u8], number: u64) -> Result<bool, LineFault>
     } else {
         Err(LineFault::Unended(number))
     }
+}
+
+// Why there is no next line.
+
+/// Why there is no next line. A number is the line's, from 1; a line past the one with number 2^64 - 1 has that
+/// number too.
+#[derive(Clone, Copy, Debug, PartialEq, Eq)]
+pub enum LineFault {
+    /// The source has failed.
+    Source,
+    /// The line's first 161 bytes have no line feed.
+    TooLong(u64),
+    /// A byte of the line isn't from 0x20 to 0x7E.
+    NotText(u64),
+    /// The input ends after 1 to 160 bytes of the line.
+    Unended(u64),
 }

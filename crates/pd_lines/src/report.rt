@@ -3,19 +3,20 @@
 ghost use Rattle.std.specs.Prelude.{◌≡◌, ◌==◌, false, ℕ, ◌+◌, ◌≤◌, ◌++◌, ◌∷◌, [], List, Option, OnOk, length, codes, decimal};
 ghost use Rattle.std.specs.List.{flat_map};
 ghost use Rattle.pd_kinds.specs.Objects.{CountsFault, Appends, AppendsFront};
-ghost use Rattle.pd_spells.specs.Lines.{fault_line, space_name, counts_text, lines_of};
+ghost use Rattle.pd_grammar.specs.Lines.{fault_line, space_name, counts_text, lines_of};
 ghost use Rattle.pd_lines.specs.Pieces.{Gathers};
 
 use crate::line::LineBuffer;
-use crate::pieces::Pieces;
+use crate::printer::Pieces;
 use pd_image::{Failed, Sink};
 use pd_kinds::{Fault, Report, Rule, Space};
 
 /// Prints the kept faults of a report, a line each, and then their number, or `clean`.
-#[tactic(auto, unfolding(pd_spells::specs::Lines::lines_of))]
+#[tactic(auto, unfolding(pd_grammar::specs::Lines::lines_of))]
 pub fn print_report<K: Sink>(report: &Report, out: &mut K) -> Result<(), Failed>
     requires { (K.state out.old).access ≡ 1 }
-    ensures whole { OnOk result (Appends (lines_of report.now.faults report.now.total) (K.state out.old).written (K.state out.new).written) }
+    ensures whole { OnOk result (Appends (lines_of report.now.faults report.now.total)
+        (K.state out.old).written (K.state out.new).written) }
     ensures front { AppendsFront (lines_of report.now.faults report.now.total) (K.state out.old).written (K.state out.new).written }
     ensures access { (K.state out.new).access ≡ (K.state out.old).access }
     ensures path { (K.state out.new).path ≡ (K.state out.old).path }
@@ -32,7 +33,8 @@ pub fn print_report<K: Sink>(report: &Report, out: &mut K) -> Result<(), Failed>
 fn print_faults<K: Sink>(report: &Report, out: &mut K) -> Result<(), Failed>
     requires attached { (K.state out.old).access ≡ 1 }
     requires some { (report.now.total == 0) ≡ false }
-    ensures whole { OnOk result (Appends (lines_of report.now.faults report.now.total) (K.state out.old).written (K.state out.new).written) }
+    ensures whole { OnOk result (Appends (lines_of report.now.faults report.now.total)
+        (K.state out.old).written (K.state out.new).written) }
     ensures front { AppendsFront (lines_of report.now.faults report.now.total) (K.state out.old).written (K.state out.new).written }
     ensures access { (K.state out.new).access ≡ (K.state out.old).access }
     ensures path { (K.state out.new).path ≡ (K.state out.old).path }
@@ -85,7 +87,7 @@ fn space_word(space: Space) -> &'static [u8]
 }
 
 /// Adds the two numbers of a leak or a shortage.
-#[tactic(auto, unfolding(pd_spells::specs::Lines::counts_text))]
+#[tactic(auto, unfolding(pd_grammar::specs::Lines::counts_text))]
 fn add_counts(line: &mut LineBuffer, fault: &Fault)
     requires { length line.old + 60 ≤ 161 }
     ensures bytes { line.new ≡ line.old ++ counts_text fault.now.rule fault.now.stored fault.now.refs }
@@ -103,7 +105,7 @@ fn add_counts(line: &mut LineBuffer, fault: &Fault)
 }
 
 /// The line of a fault.
-#[tactic(auto, unfolding(pd_spells::specs::Lines::fault_line))]
+#[tactic(auto, unfolding(pd_grammar::specs::Lines::fault_line))]
 fn line_of(fault: &Fault) -> LineBuffer
     ensures { result ≡ fault_line fault.now }
 {

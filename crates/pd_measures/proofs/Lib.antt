@@ -1,9 +1,4 @@
-pub mod SoundLemmas
-pub mod ListLemmas
-pub mod TimeLemmas
 pub mod MeasureLemmas
+pub mod ListLemmas
 pub mod NodeLemmas
-pub mod CountLemmas
-pub mod GaugeLemmas
-pub mod ListsLemmas
-pub mod PairLemmas
+pub mod SoundLemmas

@@ -1,9 +1,9 @@
 -- Two trees fit each other exactly where their lists of devices are one: over plain lists of entries.
-use Rattle.std.proofs.Common.{◌≡◌, ℕ, suc, ◌+◌, ◌/◌, ◌%◌, ◌^◌, ◌<◌, Bool, true, ◌&&◌, nat_eq, max, fold, sum_by, List, [], ◌∷◌, ◌++◌, length, map, Option, Some, refl, sym, ◌∙◌, ap, subst, arith, eq-eqb}
-use Rattle.std.specs.List.{list_all, flat_map}
+use Rattle.std.proofs.Common.{◌≡◌, ℕ, suc, ◌/◌, ◌%◌, ◌^◌, ◌<◌, Bool, true, ◌&&◌, nat_eq, max, fold, sum_by, List, [], ◌∷◌, ◌++◌, length, map, Option, Some, refl, sym, ◌∙◌, ap, subst, arith, eq-eqb, false, None, Result, Ok, Err, IfOk, IfSome, ap₂}
+use Rattle.std.specs.List.{list_all, flat_map, AllByRecursion}
 use Rattle.std.specs.Option.{unwrap_or}
 use Rattle.std.specs.Str.{bytes_eq}
-use Rattle.std.proofs.lemmas.Bool.{ne_eqb, eqb-true, and_parts, and_from}
+use Rattle.std.proofs.lemmas.Bool.{ne_eqb, eqb-true, and_parts, and_from, both_ways}
 use Rattle.std.proofs.lemmas.List.{length-map}
 use Rattle.std.proofs.lemmas.List.Sums.{sum_by-cons}
 use Rattle.std.proofs.lemmas.Slice.Eq.{bytes_eq-Decides}
@@ -13,10 +13,14 @@ use Rattle.pd_kinds.specs.Meaning.{Mapping, ThinDevice, thin_device}
 use Rattle.pd_kinds.specs.ThinFormat.{mapped_block, mapped_time}
 use Rattle.pd_kinds.specs.Trees.{keys_of, value_of_key}
 use Rattle.pd_kinds.specs.Whole.{mapping_entries, mapped_number}
+use Rattle.pd_kinds.proofs.KindLemmas.{the_mapping}
 use Rattle.pd_laid.specs.FoundRoots.{times_of}
-use Rattle.pd_whole.specs.Ascending.{IsUp}
-use Rattle.pd_measures.specs.Counts.{DeviceCount, counts_by_details, counts_by_roots, details_times, details_transaction_of, latest, mapping_times, mappings_below, times_below, total_of}
-use Rattle.pd_measures.proofs.TimeLemmas.{latest-append, latest-cons}
+use Rattle.pd_value.specs.declared.thin.Root.{Root}
+use Rattle.pd_value.specs.declared.thin.Details.{Details}
+use Rattle.pd_tree.specs.Cursor.{item_of, root_of}
+use Rattle.pd_check.specs.Known.{IsUp}
+use Rattle.pd_measures.specs.Counts.{DeviceCount, counts_by_details, counts_by_roots, details_times, details_transaction_of, latest, mapping_times, mappings_below, times_below, total_of, are_one, details_of, is_one, pairs_of, key_and_told}
+use Rattle.pd_measures.proofs.MeasureLemmas.{latest-append, latest-cons, two}
 
 -- the value at the first key, and at a later one
 value_first : (key : ℕ) (d : Entry) (ds : List Entry) → d.key ≡ key → value_of_key (d ∷ ds) key ≡ Some d.value
@@ -27,15 +31,8 @@ value_later : (key : ℕ) (d : Entry) (ds : List Entry) → d.key < key → valu
 unfolding value_of_key
 value_later key d ds less = rw (ne_eqb d.key key (λ same. omega arith)) refl
 
-two : (a b c d : ℕ) → a ≡ b → c ≡ d → a + c ≡ b + d
-two a b c d e f = omega arith
-
--- a mapping by its entry
-abbrev the_mapping : Entry → Mapping
-the_mapping e = record { virtual_block = e.key; data_block = mapped_block e.value; time = mapped_time e.value }
-
 -- a device with a number of mappings
-abbrev the_count : ℕ → ℕ → DeviceCount
+abbrev pub the_count : ℕ → ℕ → DeviceCount
 the_count id mapped = record { id = id; mapped = mapped }
 
 module _ (graph : Graph) (image : List (List ℕ)) where
@@ -273,3 +270,60 @@ module _ (graph : Graph) (image : List (List ℕ)) (ts ds : List Entry) (up : Is
   fits_times e =
       ap (sum_by (λ (d : ThinDevice). sum_by (λ (m : Mapping). m.time) d.mappings)) (devices_are graph image ts ds 0 (fits_keys e) up)
       ∙ times_sum graph image ts ds (fits_keys e)
+
+-- Lists of devices, compared entry by entry.
+
+-- entries as cursors give them
+module _ (below number : ℕ → ℕ) where
+  abbrev tops_of : List Entry → List (ℕ × Root)
+  tops_of ts = map (item_of root_of) ts
+
+  abbrev details_from : List Entry → List (ℕ × Details)
+  details_from ds = map (item_of details_of) ds
+
+  pub one_by_items : (ts ds : List Entry) → AllByRecursion (λ (e : Entry). below e.value ≡ number e.value) ts → are_one below (tops_of ts) (details_from ds) ≡ true
+      → counts_by_roots number ts ≡ counts_by_details ds
+  one_by_items [] [] told e = refl
+  one_by_items [] (d ∷ ds) told e = absurd (both_ways false refl e)
+  one_by_items (t ∷ ts) [] told e = absurd (both_ways false refl e)
+  one_by_items (t ∷ ts) (d ∷ ds) told e =
+      let parts = and_parts (is_one below (item_of root_of t) (item_of details_of d)) (are_one below (tops_of ts) (details_from ds)) e in
+      let here = and_parts (nat_eq t.key d.key) (nat_eq (below t.value) (details_of d.value).mapped) parts.0 in
+      let key : t.key ≡ d.key = eqb-true t.key d.key here.0 in
+      let mapped : number t.value ≡ (details_of d.value).mapped = sym told.0 ∙ eqb-true (below t.value) (details_of d.value).mapped here.1 in
+      ap (λ (k : ℕ). the_count k (number t.value) ∷ counts_by_roots number ts) key
+      ∙ (ap (λ (n : ℕ). the_count d.key n ∷ counts_by_roots number ts) mapped
+      ∙ ap (λ (cs : List DeviceCount). the_count d.key (details_of d.value).mapped ∷ cs) (one_by_items ts ds told.1 parts.1))
+
+  pub items_by_one : (ts ds : List Entry) → AllByRecursion (λ (e : Entry). below e.value ≡ number e.value) ts
+      → counts_by_roots number ts ≡ counts_by_details ds → are_one below (tops_of ts) (details_from ds) ≡ true
+  items_by_one [] [] told e = refl
+  items_by_one [] (d ∷ ds) told e = absurd (cc)
+  items_by_one (t ∷ ts) [] told e = absurd (cc)
+  items_by_one (t ∷ ts) (d ∷ ds) told e =
+      let head : the_count t.key (number t.value) ≡ the_count d.key (details_of d.value).mapped = cc in
+      let rest : counts_by_roots number ts ≡ counts_by_details ds = cc in
+      and_from (is_one below (item_of root_of t) (item_of details_of d)) (are_one below (tops_of ts) (details_from ds))
+      (and_from (nat_eq t.key d.key) (nat_eq (below t.value) (details_of d.value).mapped)
+      (eq-eqb t.key d.key (ap (λ (c : DeviceCount). c.id) head))
+      (eq-eqb (below t.value) (details_of d.value).mapped (told.0 ∙ ap (λ (c : DeviceCount). c.mapped) head)))
+      (items_by_one ts ds told.1 rest)
+
+-- The entries of trees, as cursors give them, as pairs of a device's id and its number of mappings.
+
+pub tops_listed : (below number : ℕ → ℕ) (ts : List Entry) → AllByRecursion (λ (e : Entry). below e.value ≡ number e.value) ts
+    → map (key_and_told (λ (root : Root). below root.0)) (map (item_of root_of) ts) ≡ pairs_of (counts_by_roots number ts)
+tops_listed below number [] told = refl
+tops_listed below number (t ∷ ts) told =
+    ap₂ (λ (n : ℕ) (rest : List (ℕ × ℕ)). (t.key, n) ∷ rest) told.0 (tops_listed below number ts told.1)
+
+pub details_listed : (ds : List Entry) → map (key_and_told (λ (details : Details). details.mapped)) (map (item_of details_of) ds) ≡ pairs_of (counts_by_details ds)
+details_listed [] = refl
+details_listed (d ∷ ds) = ap (λ (rest : List (ℕ × ℕ)). (d.key, (details_of d.value).mapped) ∷ rest) (details_listed ds)
+
+-- what holds of an answer over what a device tells
+pub ok_some : {T E X : Type 0} → (r : Result T E) (o : Option X) (P Q : T → X → Type 0) → ((t : T) (x : X) → P t x → Q t x)
+    → IfOk r (λ t. IfSome o (P t)) → IfOk r (λ t. IfSome o (Q t))
+ok_some (Ok t) (Some x) P Q f p = f t x p
+ok_some (Ok t) None P Q f p = tt
+ok_some (Err e) o P Q f p = tt

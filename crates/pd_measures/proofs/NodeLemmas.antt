@@ -1,31 +1,28 @@
 -- The measure of a node from what stands in it, and from its children's.
-use Rattle.std.proofs.Common.{◌≡◌, ◌⊎◌, inl, inr, ℕ, ◌+◌, ◌-◌, ◌<◌, Bool, true, false, not, cond, nat_eq, List, [], ◌∷◌, ◌++◌, map, Option, Some, slice_get, refl, sym, ◌∙◌, ap, subst, arith, eq-eqb, add-one}
+use Rattle.std.proofs.Common.{◌≡◌, ◌⊎◌, inl, inr, ℕ, ◌+◌, ◌-◌, ◌<◌, Bool, true, false, not, cond, nat_eq, List, [], ◌∷◌, ◌++◌, map, Option, Some, slice_get, refl, sym, ◌∙◌, ap, subst, arith, eq-eqb, add-one, ◌≤◌, ◌&&◌, ◌||◌, nat_lt}
 use Rattle.std.specs.List.{flat_map, range_with_len}
 use Rattle.std.specs.Option.{unwrap_or}
-use Rattle.std.proofs.lemmas.Bool.{cases_Bool, cases_eq, and_parts, ne_eqb, eqb-true, both_ways, or_cases, or_left, or_right}
+use Rattle.std.proofs.lemmas.Bool.{cases_Bool, cases_eq, and_parts, ne_eqb, eqb-true, both_ways, or_cases, or_left, or_right, cases_lt, lt-ltb, le-ltb}
 use Rattle.std.proofs.lemmas.List.{map-append}
-use Rattle.pd_kinds.specs.Graph.{Graph, block_at, pair, block_of, role_of, is_inner_pair, next}
+use Rattle.pd_kinds.specs.Graph.{Graph, block_at, pair, block_of, role_of, is_inner_pair, next, children, gathered, has_chain}
 use Rattle.pd_kinds.specs.Layout.{leaf_entries, node_entries_of}
 use Rattle.pd_kinds.specs.Node.{Entry, child_at, entry_count, is_inner_node}
-use Rattle.pd_kinds.specs.Order.{children, gathered, has_chain}
 use Rattle.pd_kinds.specs.Trees.{entries_below}
 use Rattle.pd_graph.specs.declared.notes.Notes.{Notes}
 use Rattle.pd_graph.specs.Notes.{note_in, size_of}
 use Rattle.pd_graph.proofs.BitLemmas.{range_more}
-use Rattle.pd_settle.specs.Good.{is_good_node, is_well}
+use Rattle.pd_graph.specs.Walk.{weigh}
+use Rattle.pd_graph.proofs.Weights.{more_weight, same_weight, wider_weight, ones_below}
+use Rattle.pd_settle.specs.Settled.{is_good_node, is_well}
 use Rattle.pd_settle.proofs.ChainLemmas.{is_among, all_among}
 use Rattle.pd_settle.proofs.GoodLemmas.{good_child, good_ends, good_well}
 use Rattle.pd_settle.proofs.KeyLemmas.{gathered_step}
 use Rattle.pd_tree.specs.Below.{kids_from}
-use Rattle.pd_tree.specs.Levels.{node_kids}
-use Rattle.pd_tree.specs.Sound.{IsCleanPair}
-use Rattle.pd_tree.proofs.TableLemmas.{IsTreeAt, tree_at, block_pair, role_pair}
-use Rattle.pd_measures.specs.declared.measured.Measured.{Measured}
+use Rattle.pd_tree.specs.Search.{node_kids, IsCleanPair}
+use Rattle.pd_tree.proofs.TreeLemmas.{IsTreeAt, tree_at, block_pair, role_pair}
+use Rattle.pd_measures.specs.declared.measures.Measured.{Measured}
 use Rattle.pd_measures.specs.declared.measures.Measures.{Measures}
-use Rattle.pd_measures.specs.Gauge.{entry_of}
-use Rattle.pd_measures.specs.Measured.{join, joined, measured, no_measure}
-use Rattle.pd_measures.specs.Measures.{measure_at}
-use Rattle.pd_measures.specs.Trees.{AreMeasuredTo, AreTrees}
+use Rattle.pd_measures.specs.Measured.{entry_of, join, joined, measured, no_measure, measure_at, AreMeasuredTo, AreTrees, was_read}
 use Rattle.pd_measures.proofs.MeasureLemmas.{joined-push, joined_is, measured-push}
 use Rattle.pd_measures.proofs.SoundLemmas.{leads_small}
 
@@ -207,3 +204,71 @@ module _ (graph : Graph) (image : List (List ℕ)) (role size : ℕ) (fit : ℕ 
       | inr ne ↦ other_measure c b measure (measure_at old c) (measure_at new c) (sets c) ne ∙ done.nodes c there is_good (earlier height b c at ne)
     ];
   }
+
+-- How many blocks were read.
+
+-- by a height and a place
+abbrev test : ℕ → ℕ → ℕ → ℕ → Bool
+test height before h c = nat_lt h height || (nat_eq h height && nat_lt c before)
+
+test_here : (height b h : ℕ) → h ≡ height → test height b h b ≡ false
+test_here height b h same = rw (le-ltb h height (omega arith), eq-eqb h height same, le-ltb b b (omega arith)) refl
+
+test_gains : (height b h c : ℕ) → (c ≡ b → h ≡ height) → test height (b + 1) h c ≡ (test height b h c || nat_eq c b)
+test_gains height b h c here = elim (cases_eq c b) [
+  | inl same ↦
+      let at = here same in
+      rw (le-ltb h height (omega arith), eq-eqb h height at, lt-ltb c (b + 1) (omega arith), le-ltb c b (omega arith), eq-eqb c b same) refl
+  | inr ne ↦ elim (cases_lt c b) [
+    | inl less ↦ rw (lt-ltb c (b + 1) (omega arith), lt-ltb c b less, ne_eqb c b ne) (or_none (nat_lt h height || (nat_eq h height && true)))
+    | inr more ↦ rw (le-ltb c (b + 1) (omega arith), le-ltb c b more, ne_eqb c b ne) (or_none (nat_lt h height || (nat_eq h height && false)))
+  ]
+]
+  where
+    or_none : (x : Bool) → x ≡ (x || false)
+    or_none true = refl
+    or_none false = refl
+
+-- one block was read
+pub count_more : (notes : Notes) (height b nr : ℕ) → b < nr → (note_in notes b).height ≡ height
+    → weigh (was_read notes height (b + 1)) (λ c. 1) nr ≡ weigh (was_read notes height b) (λ c. 1) nr + 1
+count_more notes height b nr small at =
+    more_weight (was_read notes height b) (was_read notes height (b + 1)) (λ c. 1) b nr small (test_here height b (note_in notes b).height at)
+    (λ c. test_gains height b (note_in notes c).height c (λ same. ap (λ (d : ℕ). (note_in notes d).height) same ∙ at))
+
+test_wider : (height a b h c : ℕ) → a ≤ b → test height a h c ≡ true → test height b h c ≡ true
+test_wider height a b h c few e = elim (cases_lt c b) [
+  | inl less ↦ rw (lt-ltb c b less) (wide (nat_lt h height) (nat_eq h height) (nat_lt c a) e)
+  | inr more ↦ rw (le-ltb c b more) (rw (le-ltb c a (omega arith)) at e)
+]
+  where
+    wide : (x y z : Bool) → (x || (y && z)) ≡ true → (x || (y && true)) ≡ true
+    wide true y z e = refl
+    wide false true z e = refl
+    wide false false z e = e
+
+pub count_grows : (notes : Notes) (height a b nr : ℕ) → a ≤ b → weigh (was_read notes height a) (λ c. 1) nr ≤ weigh (was_read notes height b) (λ c. 1) nr
+count_grows notes height a b nr few =
+    wider_weight (was_read notes height a) (was_read notes height b) (λ c. 1) nr (λ c. test_wider height a b (note_in notes c).height c few)
+
+-- the next height
+test_next : (height nr h c : ℕ) → c < nr → test (height + 1) 0 h c ≡ test height nr h c
+test_next height nr h c small = elim (cases_lt h height) [
+  | inl less ↦ rw (lt-ltb h (height + 1) (omega arith), lt-ltb h height less) refl
+  | inr more ↦ elim (cases_eq h height) [
+    | inl same ↦ rw (lt-ltb h (height + 1) (omega arith), le-ltb h height more, eq-eqb h height same, lt-ltb c nr small) refl
+    | inr ne ↦ rw (le-ltb h (height + 1) (omega arith), le-ltb h height more, ne_eqb h height ne, le-ltb c 0 (omega arith)) (none (nat_eq h (height + 1)))
+  ]
+]
+  where
+    none : (x : Bool) → (false || (x && false)) ≡ (false || (false && nat_lt c nr))
+    none true = refl
+    none false = refl
+
+pub count_next : (notes : Notes) (height before nr : ℕ) → nr ≤ before
+    → weigh (was_read notes (height + 1) 0) (λ c. 1) nr ≡ weigh (was_read notes height before) (λ c. 1) nr
+count_next notes height before nr all =
+    same_weight (was_read notes height before) (was_read notes (height + 1) 0) (λ c. 1) nr (λ c small. test_next height before (note_in notes c).height c (omega arith))
+
+pub count_most : (notes : Notes) (height before nr : ℕ) → weigh (was_read notes height before) (λ c. 1) nr ≤ nr
+count_most notes height before nr = ones_below (was_read notes height before) nr

@@ -3,19 +3,16 @@ use Rattle.std.proofs.Common.{◌≡◌, ◌↔◌, inl, inr, ℕ, zero, suc, �
 use Rattle.std.specs.List.{list_any, list_all, range_with_len, AllByRecursion}
 use Rattle.std.proofs.lemmas.Bool.{cases_eq, or_cases, and_parts, eqb-true, ltb-true, both_ways, not-true}
 use Rattle.pd_kinds.specs.Rule.{all_rules}
-use Rattle.pd_kinds.specs.Edge.{Edge, is_outside}
-use Rattle.pd_kinds.specs.Graph.{Graph, block_at, pair, block_of, role_of, edges_of, next, is_inner_pair, is_reached_from, nodes_from}
+use Rattle.pd_kinds.specs.Graph.{Edge, is_outside, Graph, block_at, pair, block_of, role_of, edges_of, next, is_inner_pair, is_reached_from, nodes_from, children, is_deep, is_in_range}
 use Rattle.pd_kinds.specs.Lawful.{IsLawful, IsWithin}
-use Rattle.pd_kinds.specs.Order.{children, is_deep, is_in_range}
 use Rattle.pd_kinds.specs.Paths.{IsOnPathFrom, start, edge}
-use Rattle.pd_laws.proofs.SoundLemmas.{none_broken}
+use Rattle.pd_kinds.proofs.SoundLemmas.{none_broken}
 use Rattle.pd_kinds.specs.declared.limits.TheConstants.{MAX_META_BLOCKS}
 use Rattle.pd_kinds.specs.Layout.{Layout, Tree, tree, graph_of}
 use Rattle.pd_kinds.specs.ThinFormat.{thin_layout}
 use Rattle.pd_laid.specs.FoundRoots.{is_sound_pair, is_sound_tree, lost_graph}
-use Rattle.pd_tree.specs.TreeRoles.{IsTreeRole}
-use Rattle.pd_tree.specs.Sound.{IsUnder, IsSoundTree}
-use Rattle.pd_tree.specs.Sound.IsUnder.{itself, below}
+use Rattle.pd_tree.specs.Search.{IsTreeRole, IsUnder, IsSoundTree}
+use Rattle.pd_tree.specs.Search.IsUnder.{itself, below}
 
 -- what is kept of a range passes
 rest_all : (f : ℕ → Bool) (b : Bool) (x : ℕ) (kept : List ℕ) → list_all f (cond b (x ∷ kept) kept) ≡ true → list_all f kept ≡ true

@@ -1,14 +1,12 @@
-//! What the entries of a pool's trees count for.
+//! What the entries of a pool's trees count for (`thin_repair`).
 
-ghost use Rattle.std.specs.Prelude.{◌≡◌, ◌+◌, ◌*◌, ◌%◌, ◌^◌, ◌<◌, max, nat_lt, if◌then◌else◌};
+ghost use Rattle.std.specs.Prelude.{◌≡◌, nat_lt, if◌then◌else◌, ℕ, ◌<◌, false, true};
+ghost use Rattle.pd_kinds.specs.Node.{Entry, child_at, entry_count, is_inner_node};
 ghost use Rattle.pd_graph.specs.Notes.{note_in, size_of};
-ghost use Rattle.pd_kinds.specs.ThinFormat.{mapped_time};
-ghost use Rattle.pd_kinds.specs.Whole.{mapped_number};
-ghost use Rattle.pd_measures.specs.Gauge.{details_gauge, mappings_gauge, print_of as print_number, top_gauge};
+ghost use Rattle.pd_measures.specs.Measured.{details_gauge, mappings_gauge, print_of as print_number, top_gauge, entry_of};
+ghost use Rattle.pd_measures.specs.declared.measures.Measured.{Measured as Measure};
 
-use crate::gauge::Gauge;
-use crate::measured::Measured;
-use crate::measures::Measures;
+use crate::measures::{Measured, Measures};
 use pd_graph::Notes;
 use pd_kinds::Block;
 use pd_node::{child, entries, key, value};
@@ -19,7 +17,7 @@ use pd_value::{BlockTime, Details, Root};
 const SPREAD: u64 = 11400714819323198485;
 
 /// A number for a device with so many mappings, that most other devices and numbers don't share.
-#[tactic(auto, unfolding(crate::specs::Gauge::print_of))]
+#[tactic(auto, unfolding(crate::specs::Measured::print_of))]
 fn print_of(id: u64, mapped: u64) -> u64
     ensures { result ≡ print_number id mapped }
 {
@@ -129,4 +127,31 @@ impl Gauge for TopGauge {
             print: print_of(key::<Root>(block, i), below),
         }
     }
+}
+
+// What an entry of a tree counts for (`thin_repair`).
+
+/// What each entry of a tree counts for.
+pub trait Gauge {
+    /// The size of the values of its leaves, in bytes.
+    ghost SIZE: { ℕ };
+
+    /// What an entry counts for.
+    ghost of: { Self → Entry → Measure };
+
+    /// The number of entries of a node, and 0 of any other block.
+    fn entries(&self, block: &Block) -> usize
+        ensures { result ≡ entry_count SIZE block.now.0 };
+
+    /// The block that entry `i`, from 0, of an inner node names.
+    fn child(&self, block: &Block, i: usize) -> u64
+        requires entry { i < entry_count SIZE block.now.0 }
+        requires inner { is_inner_node block.now.0 ≡ true }
+        ensures { result ≡ child_at block.now.0 i };
+
+    /// What entry `i`, from 0, of a leaf counts for.
+    fn entry(&self, block: &Block, i: usize) -> Measured
+        requires entry { i < entry_count SIZE block.now.0 }
+        requires leaf { is_inner_node block.now.0 ≡ false }
+        ensures { result ≡ of self.now (entry_of SIZE block.now.0 i) };
 }

@@ -1,4 +1,4 @@
-//! What it comes to that two trees fit each other, as laws on functions with empty bodies.
+//! What it comes to that two trees fit each other, as laws on functions with empty bodies (`thin_repair`).
 
 ghost use Rattle.std.specs.List.{AllByRecursion};
 ghost use Rattle.std.specs.Prelude.{◌≡◌, ◌↔◌, ◌<◌, ℕ, max, true, List};
@@ -6,17 +6,16 @@ ghost use Rattle.pd_kinds.specs.Graph.{Graph, pair};
 ghost use Rattle.pd_kinds.specs.Lawful.{IsLawful};
 ghost use Rattle.pd_kinds.specs.Node.{Entry};
 ghost use Rattle.pd_kinds.specs.Whole.{details_entries, top_entries};
-ghost use Rattle.pd_graph.specs.declared.notes.Notes.{Notes as TheNotes};
 ghost use Rattle.pd_laid.specs.FoundRoots.{are_fitting, is_sound_tree, lost_graph, roots_at};
-ghost use Rattle.pd_tree.specs.Sound.{IsSoundTree};
+ghost use Rattle.pd_graph.specs.declared.notes.Notes.{Notes as TheNotes};
+ghost use Rattle.pd_tree.specs.Search.{IsSoundTree};
 ghost use Rattle.pd_measures.specs.declared.measures.Measures.{Measures as TheMeasures};
-ghost use Rattle.pd_measures.specs.Gauge.{details_gauge, list_measure, top_gauge};
-ghost use Rattle.pd_measures.specs.Measured.{measured};
-ghost use Rattle.pd_measures.specs.Trees.{AreToldOf};
-ghost use Rattle.pd_measures.specs.Counts.{counts_of_top, counts_of_details, details_time, details_transaction, times_of_top, top_time, total_of};
+ghost use Rattle.pd_measures.specs.Measured.{details_gauge, list_measure, top_gauge, measured, AreToldOf};
+ghost use Rattle.pd_measures.specs.Counts.{counts_of_top, counts_of_details, details_time};
+ghost use Rattle.pd_measures.specs.Counts.{details_transaction, times_of_top, top_time, total_of};
 
-use pd_laws::{reached_by_paths, thin_format_is_lawful};
-use pd_whole::keys_of_sound_trees_ascend;
+use pd_check::keys_of_sound_trees_ascend;
+use pd_kinds::{reached_by_paths, thin_format_is_lawful};
 
 /// A tree that a search for roots holds for sound is a sound tree, whose entries a cursor gives.
 pub fn found_trees_are_sound()
@@ -55,7 +54,8 @@ pub fn fitting_trees_have_one_list()
 /// the same total and the same fingerprint. Of a mapping tree it is so where each root of a device is told of rightly.
 pub fn measures_are_those_of_lists()
     ensures details { (graph : Graph) (image : List (List ℕ)) (details : ℕ) → measured details_gauge (details_entries graph image details)
-        ≡ list_measure (counts_of_details graph image details) (details_time graph image details) (details_transaction graph image details) 0 }
+        ≡ list_measure (counts_of_details graph image details)
+        (details_time graph image details) (details_transaction graph image details) 0 }
     ensures tops { (graph : Graph) (image : List (List ℕ)) (top : ℕ) (notes : TheNotes) (times : TheMeasures)
         → AllByRecursion (λ (e : Entry). AreToldOf graph image notes times e.value) (top_entries graph image top)
         → measured (top_gauge notes times) (top_entries graph image top)

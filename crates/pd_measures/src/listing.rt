@@ -1,25 +1,23 @@
-//! The list of devices of a mapping tree, or of a details tree, in memory.
+//! The list of devices of a mapping tree, or of a details tree, in memory (`thin_repair`).
 
 ghost use Rattle.std.specs.Prelude.{◌≡◌, ℕ, true, map, IfOk, IfSome};
 ghost use Rattle.std.specs.List.{AllByRecursion};
 ghost use Rattle.pd_kinds.specs.CheckFault.{CountsCheckFault};
 ghost use Rattle.pd_kinds.specs.Node.{Entry};
 ghost use Rattle.pd_kinds.specs.Whole.{top_entries};
-ghost use Rattle.pd_graph.specs.declared.notes.Notes.{Notes as TheNotes};
 ghost use Rattle.pd_laid.specs.FoundRoots.{is_sound_tree, lost_graph};
 ghost use Rattle.pd_image.specs.Device.{IsAttached, OnlyReads};
+ghost use Rattle.pd_graph.specs.declared.notes.Notes.{Notes as TheNotes};
 ghost use Rattle.pd_tree.specs.Cursor.{cursor_items};
-ghost use Rattle.pd_measures.specs.Counts.{counts_of_details, counts_of_top, mappings_below, pairs_of};
-ghost use Rattle.pd_measures.specs.Gauge.{below_root as number_below};
-ghost use Rattle.pd_measures.specs.Lists.{key_and_told};
+ghost use Rattle.pd_measures.specs.Counts.{counts_of_details, counts_of_top, mappings_below, pairs_of, key_and_told};
+ghost use Rattle.pd_measures.specs.Measured.{below_root as number_below};
 
 use crate::comparing::ListCursors;
 use crate::gauges::below_root;
 use crate::laws::found_trees_are_sound;
 use pd_graph::Notes;
 use pd_image::Device;
-use pd_kinds::CheckFault;
-use pd_laws::thin_format_is_lawful;
+use pd_kinds::{CheckFault, thin_format_is_lawful};
 use pd_tree::{Cursor, cursors_give_entries};
 use pd_value::{Details, Root, Value};
 use std::alloc::Global;
@@ -88,7 +86,8 @@ pub fn list_of_top<D: Device>(
     top: u64,
 ) -> Result<DeviceCounts, CheckFault>
     requires attached { IsAttached (D.state dev.old) }
-    ensures list { IfOk result (λ list. IfSome (D.state dev.old).held (λ image. (data_blocks : ℕ) → let graph = lost_graph image data_blocks in
+    ensures list { IfOk result (λ list. IfSome (D.state dev.old).held
+        (λ image. (data_blocks : ℕ) → let graph = lost_graph image data_blocks in
         is_sound_tree graph image 2 top ≡ true
         → AllByRecursion (λ (e : Entry). number_below notes.now e.value ≡ mappings_below graph image e.value) (top_entries graph image top)
         → list.items ≡ pairs_of (counts_of_top graph image top))) }
@@ -115,7 +114,8 @@ pub fn list_of_details<D: Device>(
     details: u64,
 ) -> Result<DeviceCounts, CheckFault>
     requires attached { IsAttached (D.state dev.old) }
-    ensures list { IfOk result (λ list. IfSome (D.state dev.old).held (λ image. (data_blocks : ℕ) → let graph = lost_graph image data_blocks in
+    ensures list { IfOk result (λ list. IfSome (D.state dev.old).held
+        (λ image. (data_blocks : ℕ) → let graph = lost_graph image data_blocks in
         is_sound_tree graph image 4 details ≡ true → list.items ≡ pairs_of (counts_of_details graph image details))) }
     ensures kept { OnlyReads (D.state dev.old) (D.state dev.new) }
     ensures faults { CountsCheckFault result (D.state dev.old).faults (D.state dev.new).faults }

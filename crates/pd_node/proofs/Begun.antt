@@ -4,14 +4,14 @@ use Rattle.std.specs.List.{AllByRecursion}
 use Rattle.std.proofs.lemmas.List.{set_comm, map-append, length-map}
 use Rattle.std.proofs.lemmas.List.FromFn.{map-range_with_len_more, get_or-map-range_with_len, length-map-range_with_len, fill_by_all}
 use Rattle.std.proofs.Math.Nat.{mul-le-mul_left, mul-suc}
-use Rattle.pd_kinds.specs.Field.{Row, le, put, written, zeros}
-use Rattle.pd_kinds.specs.Checksum.{sealed}
+use Rattle.pd_kinds.specs.Field.{Row, le, put, written, zeros, sealed}
 use Rattle.pd_kinds.specs.Node.{Entry, max_entries, puts, node_rows, node_salt, node_block}
-use Rattle.pd_kinds.proofs.FieldLemmas.{length-put, le-put, le-put_other}
-use Rattle.pd_kinds.proofs.PutsLemmas.{length-puts, puts_more}
+use Rattle.pd_kinds.proofs.FieldLemmas.{length-put, le-put, le-put_other, length-puts, puts_more}
 use Rattle.pd_kinds.proofs.WrittenLemmas.{length-zeros}
-use Rattle.pd_node.specs.OpenLeaf.{HasMore, IsBegun, values_at, entry_in, entries_in, begun_block}
-use Rattle.pd_node.proofs.Written.{count_room, entry_keys, entry_values}
+use Rattle.pd_kinds.proofs.KindLemmas.{values_of}
+use Rattle.pd_kinds.specs.Trees.{keys_of}
+use Rattle.pd_node.specs.Items.{HasMore, IsBegun, values_at, entry_in, entries_in, begun_block}
+use Rattle.pd_node.proofs.Written.{count_room}
 
 -- a byte outside a field may be written before the field
 set-put : (b : List ℕ) (o k v j a : ℕ) → ((j < o) ⊎ (o + k ≤ j)) → set (put b o k v) j a ≡ put (set b j a) o k v
@@ -55,8 +55,8 @@ with_entry size block i e = put (put block (32 + 8 * i) 8 e.key) (values_at size
 begun_more : (size : ℕ) (entries : List Entry) (e : Entry) → length entries < max_entries size
     → with_entry size (begun_block size entries) (length entries) e ≡ begun_block size (entries ++ e ∷ [])
 begun_more size entries e within =
-    let keys = entry_keys entries in
-    let values = entry_values entries in
+    let keys = keys_of entries in
+    let values = values_of entries in
     let key_count : length keys ≡ length entries = length-map entries (λ (e : Entry). e.key) in
     let value_count : length values ≡ length entries = length-map entries (λ (e : Entry). e.value) in
     let behind : 32 + 8 * length entries + 8 ≤ values_at size = omega arith in
@@ -102,8 +102,8 @@ pub begun_is_node : (flags size place : ℕ) (entries : List Entry)
 unfolding node_block
 begun_is_node flags size place entries =
     let rows = node_rows flags size place (length entries) in
-    let keys = entry_keys entries in
-    let values = entry_values entries in
+    let keys = keys_of entries in
+    let values = values_of entries in
     ap (λ (c : List ℕ). sealed c node_salt)
     (written-puts (puts zeros 32 8 keys) (values_at size) size values rows (omega arith, (omega arith, (omega arith, (omega arith, (omega arith, tt)))))
     ∙ ap (λ (c : List ℕ). puts c (values_at size) size values) (written-puts zeros 32 8 keys rows (omega arith, (omega arith, (omega arith, (omega arith, (omega arith, tt)))))))
@@ -111,8 +111,8 @@ begun_is_node flags size place entries =
 -- the length of a block
 length-begun : (size : ℕ) (entries : List Entry) → length (begun_block size entries) ≡ 4096
 length-begun size entries =
-    length-puts (puts zeros 32 8 (entry_keys entries)) (values_at size) size (entry_values entries)
-    ∙ (length-puts zeros 32 8 (entry_keys entries) ∙ length-zeros)
+    length-puts (puts zeros 32 8 (keys_of entries)) (values_at size) size (values_of entries)
+    ∙ (length-puts zeros 32 8 (keys_of entries) ∙ length-zeros)
 
 -- the block without entries
 pub begun_none : (size : ℕ) → zeros ≡ begun_block size []

@@ -2,14 +2,13 @@
 use Rattle.std.proofs.Common.{◌≡◌, ℕ, ◌+◌, ◌*◌, ◌<◌, ◌≤◌, ◌^◌, List, [], ◌∷◌, length, map, get_or, refl, ap, sym, ◌∙◌}
 use Rattle.std.specs.List.{All}
 use Rattle.std.proofs.lemmas.List.{length-map, get_or-map}
-use Rattle.pd_kinds.specs.Field.{written, zeros}
-use Rattle.pd_kinds.specs.Checksum.{sealed}
+use Rattle.pd_kinds.specs.Field.{written, zeros, sealed}
 use Rattle.pd_kinds.specs.Node.{max_entries, node_block, node_rows, node_salt, puts, value_at, entry_count}
-use Rattle.pd_node.specs.Items.{entries_of, keys_of, values_of}
-use Rattle.pd_node.specs.Read.{node_values}
-use Rattle.pd_node.proofs.Written.{CanWrite, entry_keys, entry_values, value_written}
+use Rattle.pd_kinds.proofs.KindLemmas.{values_of as entry_values}
+use Rattle.pd_kinds.specs.Trees.{keys_of as entry_keys}
+use Rattle.pd_node.specs.Items.{entries_of, keys_of, values_of, node_values}
+use Rattle.pd_node.proofs.Written.{CanWrite, value_written, read_back}
 use Rattle.pd_node.proofs.Begun.{begun_is_node}
-use Rattle.pd_node.proofs.Sound.{read_back}
 
 -- the numbers of the items' values
 abbrev pub codes_of : {X : Type 0} → (X → ℕ) → List (ℕ × X) → List ℕ

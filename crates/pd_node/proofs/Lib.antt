@@ -1,6 +1,4 @@
-pub mod Ascending
-pub mod Shape
 pub mod Written
 pub mod Begun
-pub mod Sound
+pub mod Shape
 pub mod FromItems

@@ -3,14 +3,10 @@
 //! at once or entry by entry.
 #![tactic(auto)]
 
-mod header;
 mod open_leaf;
 mod read;
-mod rules;
 mod write;
 
-pub use header::{entries, is_inner};
 pub use open_leaf::{first_key, new_leaf, put_entry, seal_leaf};
-pub use read::{child, key, value};
-pub use rules::{keys_ascend, node_rules};
+pub use read::{child, entries, is_inner, key, keys_ascend, node_rules, value};
 pub use write::{max_entries_of, write_inner, write_leaf};

@@ -3,9 +3,9 @@
 ghost use Rattle.std.specs.Prelude.{◌≡◌, ℕ, ◌<◌, ◌≤◌, true};
 ghost use Rattle.pd_kinds.specs.Field.{zeros};
 ghost use Rattle.pd_kinds.specs.Node.{key_at, leaf_block, max_entries};
-ghost use Rattle.pd_node.specs.OpenLeaf.{HasMore, IsBegun, entries_in};
+ghost use Rattle.pd_node.specs.Items.{HasMore, IsBegun, entries_in};
 
-use crate::header::{HEADER_SIZE, KEY_SIZE, LEAF_FLAGS};
+use crate::read::{HEADER_SIZE, KEY_SIZE, LEAF_FLAGS};
 use crate::write::{max_entries_of, seal_node};
 use pd_kinds::{Block, put_u64, u64_at};
 use pd_value::{Value, put_value};

@@ -3,17 +3,15 @@
 ghost use Rattle.std.specs.Prelude.{◌≡◌, ℕ, ◌+◌, ◌*◌, ◌<◌, ◌≤◌, ◌^◌, false, true, length, map, slice_index};
 ghost use Rattle.std.specs.List.{All};
 ghost use Rattle.pd_kinds.specs.declared.rule.Rule.{Rule as BrokenRule};
-ghost use Rattle.pd_kinds.specs.Checksum.{has_checksum, sealed};
-ghost use Rattle.pd_kinds.specs.Field.{written};
-ghost use Rattle.pd_kinds.specs.Node.{entry_count, inner_block, is_ascending, is_inner_node, leaf_block, max_entries, node_bad, node_keys, node_rows, node_salt, puts};
-ghost use Rattle.pd_node.specs.Items.{entries_of, keys_of, values_of};
-ghost use Rattle.pd_node.specs.Read.{node_children, node_values};
+ghost use Rattle.pd_kinds.specs.Field.{has_checksum, sealed, written};
+ghost use Rattle.pd_kinds.specs.Node.{entry_count, inner_block, is_ascending, is_inner_node, leaf_block};
+ghost use Rattle.pd_kinds.specs.Node.{max_entries, node_bad, node_keys, node_rows, node_salt, puts};
+ghost use Rattle.pd_node.specs.Items.{entries_of, keys_of, values_of, node_children, node_values};
 
-use crate::header::{
-    ENTRIES_AT, FLAGS_AT, HEADER_SIZE, INNER_FLAGS, KEY_SIZE, LEAF_FLAGS, MAX_AT, PLACE_AT,
-    VALUE_SIZE_AT,
+use crate::read::{
+    ENTRIES_AT, FLAGS_AT, HEADER_SIZE, INNER_FLAGS, KEY_SIZE, LEAF_FLAGS, MAX_AT, NODE_SALT,
+    PLACE_AT, VALUE_SIZE_AT,
 };
-use crate::rules::NODE_SALT;
 use pd_crc::seal;
 use pd_kinds::{BLOCK_SIZE, Block, put_u32, put_u64};
 use pd_value::{Value, put_value};

@@ -1,24 +1,134 @@
 -- Runs that are printed and counted, one part after another.
-use Rattle.std.proofs.Common.{◌≡◌, ℕ, List, [], ◌∷◌, ◌++◌, map, Option, None, Some, IfSome, Result, Ok, Err, OnOk, refl, sym, ap, ap₂, ◌∙◌, append_assoc}
-use Rattle.std.specs.Result.{IsErr}
+use Rattle.std.proofs.Common.{◌≡◌, ℕ, ◌+◌, ◌-◌, ◌^◌, min, List, [], ◌∷◌, ◌++◌, length, Option, IfSome, Result, Ok, Err, OnOk, refl, sym, ap, ◌∙◌, append_assoc, arith, length-append, map, None, Some, ap₂}
+use Rattle.std.specs.Prelude.{sum_by}
+use Rattle.std.specs.List.{flat_map}
 use Rattle.std.proofs.lemmas.List.{append-nil, map-append}
-use Rattle.pd_grammar.specs.Texts.{text_of_lines}
+use Rattle.std.proofs.lemmas.List.Sums.{sum_by-append}
+use Rattle.std.proofs.lemmas.List.Concat.{flat_map-append}
+use Rattle.std.specs.Result.{IsErr}
+use Rattle.pd_kinds.proofs.ResultLemmas.{if_both, if_any}
+use Rattle.pd_grammar.specs.ThinText.{Line, end_line, map_line, thin}
+use Rattle.pd_grammar.specs.Texts.{text_of_lines, written}
 use Rattle.pd_lines.specs.Printing.{Printing, Prints}
 use Rattle.pd_lines.proofs.Printing.{begun_after, printed_both, printed_none}
-use Rattle.pd_spells.specs.ThinText.{Line, map_line, thin}
-use Rattle.pd_texts.specs.Printed.{text_of_line}
-use Rattle.pd_thin_meaning.specs.declared.joined.Run.{Run}
-use Rattle.pd_thin_meaning.specs.Joined.{IsGiven, spelled}
+use Rattle.pd_texts.specs.ThinLine.{text_of_line}
+use Rattle.pd_meaning_thin.specs.declared.devices.DeviceRow.{DeviceRow}
+use Rattle.pd_meaning_thin.specs.Given.{row_lines}
+use Rattle.pd_meaning_thin.proofs.PieceLemmas.{if_three}
+use Rattle.pd_meaning_thin.specs.declared.devices.ThinDevices.{ThinDevices}
+use Rattle.pd_meaning_thin.specs.declared.joined.Run.{Run}
+use Rattle.pd_meaning_thin.specs.Runs.{rows_left, spelled, IsGiven}
+use Rattle.pd_query.proofs.QueryLemmas.{one_told, prints_known, so_far_lost, so_far_none}
+use Rattle.pd_query.specs.Query.{PrintsSome}
 use Rattle.pd_pool_dumps.specs.declared.counts.DumpCounts.{DumpCounts}
+use Rattle.pd_pool_dumps.specs.ThinText.{Counted, CountsSome, IsCountOf, mappings_of_line, given_text, rest_text, row_text, rows_text, AddsRuns, PrintsRuns, RunsSoFar, given_lines}
 use Rattle.pd_pool_dumps.specs.declared.leaf_text.LaterRuns.{LaterRuns}
-use Rattle.pd_pool_dumps.specs.Counts.{Counted, CountsSome, IsCountOf}
 use Rattle.pd_pool_dumps.specs.LeafText.{GoesOnWith}
-use Rattle.pd_query.specs.Puts.{PrintsSome}
-use Rattle.pd_pool_dumps.specs.RunsPrinted.{AddsRuns, PrintsRuns, RunsSoFar, given_lines}
-use Rattle.pd_pool_dumps.specs.ThinText.{given_text}
-use Rattle.pd_pool_dumps.proofs.CountLemmas.{counted_none, counted_then}
-use Rattle.pd_query.proofs.PutsLemmas.{each_told, one_told, prints_known, so_far_lost, so_far_none, two_told}
-use Rattle.pd_pool_dumps.proofs.TextLemmas.{run_first, text-append}
+
+-- Lines that are counted one after another.
+
+-- the lines of another count were counted
+pub count_both : (old new other : DumpCounts) → new.lines ≡ min (old.lines + other.lines) (2 ^ 64 - 1) → new.mappings ≡ min (old.mappings + other.mappings) (2 ^ 64 - 1)
+    → (lines : List Line) → IsCountOf other lines → Counted old new lines
+count_both old new other lines_are mappings_are lines counts = record {
+  all = λ before is. record {
+    mappings_are = mappings_are ∙ (capped old.mappings (sum_by mappings_of_line before) other.mappings (sum_by mappings_of_line lines) is.mappings_are counts.mappings_are
+        ∙ ap (λ (n : ℕ). min n (2 ^ 64 - 1)) (sym (sum_by-append mappings_of_line before lines)));
+    lines_are = lines_are ∙ (capped old.lines (length before) other.lines (length lines) is.lines_are counts.lines_are ∙ ap (λ (n : ℕ). min n (2 ^ 64 - 1)) (sym (length-append before lines)));
+  };
+}
+  where
+    capped : (a b n k : ℕ) → a ≡ min b (2 ^ 64 - 1) → n ≡ min k (2 ^ 64 - 1) → min (a + n) (2 ^ 64 - 1) ≡ min (b + k) (2 ^ 64 - 1)
+    capped a b n k is also = omega arith
+
+-- a line was counted
+pub count_one : (old new : DumpCounts) (line : Line) → new.lines ≡ min (old.lines + 1) (2 ^ 64 - 1) → new.mappings ≡ min (old.mappings + mappings_of_line line) (2 ^ 64 - 1)
+    → Counted old new (line ∷ [])
+count_one old new line lines mappings =
+    let n : ℕ = mappings_of_line line in
+    let one : sum_by mappings_of_line (line ∷ []) ≡ n = omega arith in
+    count_both old new (record { mappings = min n (2 ^ 64 - 1); lines = 1 }) lines (mappings ∙ capped old.mappings n) (line ∷ [])
+    (record { mappings_are = ap (λ (n : ℕ). min n (2 ^ 64 - 1)) (sym one); lines_are = refl })
+  where
+    capped : (a n : ℕ) → min (a + n) (2 ^ 64 - 1) ≡ min (a + min n (2 ^ 64 - 1)) (2 ^ 64 - 1)
+    capped a n = omega arith
+
+-- a line that has no mapping
+pub count_plain : (old new : DumpCounts) (line : Line) → mappings_of_line line ≡ 0 → new.lines ≡ min (old.lines + 1) (2 ^ 64 - 1) → new.mappings ≡ old.mappings
+    → Counted old new (line ∷ [])
+count_plain old new line none lines mappings = record {
+  all = λ before is.
+      let same : old.mappings ≡ min (old.mappings + mappings_of_line line) (2 ^ 64 - 1) = let was = is.mappings_are in omega arith in
+      (count_one old new line lines (mappings ∙ same)).all before is;
+}
+
+-- nothing was, or first these lines and then those
+pub counted_none : (now : DumpCounts) → Counted now now []
+counted_none now = record { all = λ before is. rw (append-nil before) is }
+
+pub counted_then : {old mid new : DumpCounts} (xs ys : List Line) → Counted old mid xs → Counted mid new ys → Counted old new (xs ++ ys)
+counted_then xs ys first second = record { all = λ before is. rw (← append_assoc before xs ys) (second.all (before ++ xs) (first.all before is)) }
+
+-- so far some lines were counted, which with the rest are the whole
+pub record CountedUpTo (old new : DumpCounts) (whole rest : List Line) : Type 0 where
+  pub lines : List Line
+  pub split : whole ≡ lines ++ rest
+  pub counted : Counted old new lines
+
+abbrev pub CountsSoFar : Option (List (List ℕ)) → (List (List ℕ) → List Line) → (List (List ℕ) → List Line) → DumpCounts → DumpCounts → Type 0
+CountsSoFar held whole rest old new = IfSome held (λ image. CountedUpTo old new (whole image) (rest image))
+
+module _ (held : Option (List (List ℕ))) (old mid new : DumpCounts) where
+  pub counts_more : (whole rest lines later : List (List ℕ) → List Line) → CountsSoFar held whole rest old mid
+      → IfSome held (λ image. rest image ≡ lines image ++ later image) → CountsSome held lines mid new → CountsSoFar held whole later old new
+  counts_more whole rest lines later so_far cut some = if_three held (λ image so_far cut some. record {
+    lines = so_far.lines ++ lines image;
+    split = so_far.split ∙ (ap (λ (xs : List Line). so_far.lines ++ xs) cut ∙ sym (append_assoc so_far.lines (lines image) (later image)));
+    counted = counted_then so_far.lines (lines image) so_far.counted some;
+  }) so_far cut some
+
+  -- a line, and then what a call counted; or the other way round
+  pub counts_after : {E : Type 0} (line : Line) (lines : List (List ℕ) → List Line) (result : Result (Unit {0}) E) → Counted old mid (line ∷ [])
+      → OnOk result (CountsSome held lines mid new) → OnOk result (CountsSome held (λ image. line ∷ lines image) old new)
+  counts_after line lines (Err fault) first some = tt
+  counts_after line lines (Ok done) first some = one_told held (λ image rest. counted_then (line ∷ []) (lines image) first rest) some
+
+  pub counts_before : {E : Type 0} (lines : List (List ℕ) → List Line) (line : Line) (result : Result (Unit {0}) E) → CountsSome held lines old mid
+      → OnOk result (Counted mid new (line ∷ [])) → OnOk result (CountsSome held (λ image. lines image ++ (line ∷ [])) old new)
+  counts_before lines line (Err fault) some last = tt
+  counts_before lines line (Ok done) some last = one_told held (λ image first. counted_then (lines image) (line ∷ []) first last) some
+
+-- nothing is left
+pub counts_all : (held : Option (List (List ℕ))) (old new : DumpCounts) (whole rest : List (List ℕ) → List Line) → CountsSoFar held whole rest old new → IfSome held (λ image. rest image ≡ []) → CountsSome held whole old new
+counts_all held old new whole rest so_far none =
+    if_both {P = λ image. CountedUpTo old new (whole image) (rest image)} {Q = λ image. rest image ≡ []} {R = λ image. Counted old new (whole image)} held (λ image so_far none. rw (so_far.split ∙ ap (λ (xs : List Line). so_far.lines ++ xs) none ∙ append-nil so_far.lines) so_far.counted) so_far none
+
+-- the lines of rows, by the first one
+pub rows_lines : (image : List (List ℕ)) (row : DeviceRow) (left later : List DeviceRow) → left ≡ row ∷ later → flat_map (row_lines image) left ≡ row_lines image row ++ flat_map (row_lines image) later
+rows_lines image row left later is = rw is refl
+
+-- the counts of a whole text, which began with none
+pub counts_whole : (held : Option (List (List ℕ))) (lines : List (List ℕ) → List Line) (first last : DumpCounts) → IsCountOf first [] → CountsSome held lines first last
+    → IfSome held (λ image. IsCountOf last (lines image))
+counts_whole held lines first last none some = one_told held (λ image counted. counted.all [] none) some
+
+-- The text of runs and of rows, one after another.
+
+-- the text of lines in a row
+pub text-append : (xs ys : List Line) → text_of_lines thin (xs ++ ys) ≡ text_of_lines thin xs ++ text_of_lines thin ys
+text-append xs ys = flat_map-append (λ (line : Line). written thin line ++ (10 ∷ [])) xs ys
+
+-- a run before others
+pub run_first : (run : Run) (left later : List Run) → left ≡ run ∷ later → given_text left ≡ text_of_line thin (map_line (spelled run)) ++ given_text later
+run_first run left later is = rw is refl
+
+-- a row before others
+pub row_first : (image : List (List ℕ)) (row : DeviceRow) (left later : List DeviceRow) → left ≡ row ∷ later → rows_text image left ≡ row_text image row ++ rows_text image later
+row_first image row left later is = rw is (text-append (row_lines image row) _)
+
+-- the lines of the devices, and the last one
+pub last_line : (image : List (List ℕ)) (devices : ThinDevices) → rest_text image devices ≡ rows_text image (rows_left image devices) ++ text_of_line thin end_line
+last_line image devices = text-append (flat_map (row_lines image) (rows_left image devices)) (end_line ∷ [])
 
 -- the lines and the text of runs in a row
 pub lines_both : (xs ys : List Run) → given_lines (xs ++ ys) ≡ given_lines xs ++ given_lines ys
@@ -46,13 +156,13 @@ module _ (held : Option (List (List ℕ))) where
   }
 
   pub runs_none : (whole : List (List ℕ) → List Run) (now : Printing) (counts : DumpCounts) → RunsSoFar held whole whole now now counts counts
-  runs_none whole now counts = runs_same now counts (each_told held (λ image. refl))
+  runs_none whole now counts = runs_same now counts (if_any held (λ image. refl))
 
   pub runs_both : {whole mid left : List (List ℕ) → List Run} {old between new : Printing} {first second last : DumpCounts} → RunsSoFar held whole mid old between first second
       → RunsSoFar held mid left between new second last → RunsSoFar held whole left old new first last
   runs_both one two = record {
     text = one.text ++ two.text;
-    told = two_told held (λ image adds more. adds_both adds more) one.told two.told;
+    told = if_both held (λ image adds more. adds_both adds more) one.told two.told;
     printed = printed_both one.printed two.printed;
   }
 
@@ -62,7 +172,7 @@ module _ (held : Option (List (List ℕ))) where
   runs_lost {mid = mid} one lost = record {
     text = one.text ++ lost.text;
     told =
-        two_told held
+        if_both held
         (λ image adds is. ap₂ (λ (xs ys : List ℕ). xs ++ ys) adds.text_is is ∙ (sym (text_both adds.runs (mid image)) ∙ ap (λ (rs : List Run). given_text rs) (sym adds.parts))) one.told
         lost.told;
     prints = begun_after one.printed lost.prints;
@@ -131,11 +241,6 @@ module _ (held : Option (List (List ℕ))) where
       → PrintsRuns held whole (λ image. []) result old new first last → OnOk result (CountsSome held (λ image. given_lines (whole image)) first last)
   runs_counted (Ok done) all = let so_far = all.outcome in one_told held (λ image adds. (all_runs adds).1) so_far.told
   runs_counted (Err fault) lost = tt
-
--- what holds anyway holds at Ok
-pub on_ok_any : {T E P : Type 0} (result : Result T E) → P → OnOk result P
-on_ok_any (Ok done) holds = holds
-on_ok_any (Err fault) holds = tt
 
 -- a run is given of more than was left
 pub given_more : (run : Option Run) (old new more : List Run) → IsGiven run old new → IsGiven run (old ++ more) (new ++ more)

@@ -7,24 +7,21 @@ use Rattle.std.proofs.lemmas.List.{map-append}
 use Rattle.std.proofs.lemmas.List.Sums.{sum_by-cons}
 use Rattle.pd_kinds.specs.Graph.{Graph, block_at}
 use Rattle.pd_kinds.specs.Meaning.{thin_meaning}
-use Rattle.pd_kinds.specs.ThinFormat.{thin_graph}
-use Rattle.pd_kinds.specs.ThinSuper.{thin_fields}
+use Rattle.pd_kinds.specs.ThinFormat.{thin_graph, thin_fields}
 use Rattle.pd_grammar.specs.Texts.{text_of_lines}
-use Rattle.pd_spells.specs.ThinText.{Line, Run, end_line, joined_runs, map_line, number_in, pool_line, shared_first_line, thin}
-use Rattle.pd_spells.proofs.ThinLaws.{joined_mappings}
+use Rattle.pd_grammar.specs.ThinText.{Line, Run, end_line, joined_runs, map_line, number_in, pool_line, shared_first_line, thin}
+use Rattle.pd_grammar.proofs.ThinLaws.{joined_mappings}
+use Rattle.pd_laid.specs.Shape.{all_leaf_blocks, device_shapes, image_shape, is_shared_leaf, mappings_in, shared_leaves}
+use Rattle.pd_laid.specs.PoolText.{joined_part, joined_piece, lines_of_leaves, lines_of_part, lines_of_piece, mappings_of_runs, text_of_shape}
+use Rattle.pd_laid.proofs.LeafRuns.{number_mapped}
 use Rattle.pd_laid.specs.Shape as shape
-use Rattle.pd_shapes.specs.ImageShape.{all_leaf_blocks, device_shapes, image_shape, is_shared_leaf, mappings_in, shared_leaves}
-use Rattle.pd_shapes.specs.SharedText.{joined_part, joined_piece, lines_of_leaves, lines_of_part, lines_of_piece, mappings_of_runs, text_of_shape}
-use Rattle.pd_shapes.proofs.LeafRuns.{number_mapped}
-use Rattle.pd_thin_meaning.specs.declared.devices.DeviceRow.{DeviceRow}
-use Rattle.pd_thin_meaning.specs.declared.joined.Run as given
-use Rattle.pd_thin_meaning.specs.Given.{GivesPool, device_of, pool_rows, super_head}
-use Rattle.pd_thin_meaning.specs.Joined.{given_runs, spelled}
-use Rattle.pd_thin_meaning.specs.Runs.{runs_below}
-use Rattle.pd_shared_leaves.specs.declared.pieces.Piece.TheVariants as pieces
-use Rattle.pd_shared_leaves.specs.Given.{GivesLeaf, GivesShape, IsGivenWhole, device_pieces, pool_leaves, pool_roots}
-use Rattle.pd_shared_leaves.specs.Pieces.{given_piece, pieces_below}
-use Rattle.pd_shared_leaves.proofs.MemberLemmas.{all_kept}
+use Rattle.pd_meaning_thin.specs.declared.devices.DeviceRow.{DeviceRow}
+use Rattle.pd_meaning_thin.specs.Given.{GivesPool, device_of, pool_rows, super_head}
+use Rattle.pd_meaning_thin.specs.Runs.{given_runs, spelled, runs_below}
+use Rattle.pd_meaning_thin.specs.Pieces.{GivesLeaf, GivesShape, IsGivenWhole, device_pieces, pool_leaves, pool_roots, given_piece, pieces_below}
+use Rattle.pd_meaning_thin.proofs.GivenLemmas.{all_kept}
+use Rattle.pd_meaning_thin.specs.declared.joined.Run as given
+use Rattle.pd_meaning_thin.specs.declared.pieces.Piece.TheVariants as pieces
 use Rattle.pd_pool_dumps.specs.SharedLines.{body_lines, entries_in, leaves_lines, piece_line, pieces_lines, shared_lines, sharing_lines}
 
 -- of how many mappings given runs are

@@ -4,13 +4,13 @@ use Rattle.std.specs.List.{flat_map}
 use Rattle.std.proofs.lemmas.List.{append-nil, drop_more}
 use Rattle.std.proofs.lemmas.List.Sums.{sum_by-cons}
 use Rattle.pd_grammar.specs.Texts.{text_of_lines}
-use Rattle.pd_spells.specs.ThinText.{Line, thin}
-use Rattle.pd_texts.specs.Printed.{text_of_line}
-use Rattle.pd_thin_meaning.specs.declared.devices.DeviceRow.{DeviceRow}
-use Rattle.pd_thin_meaning.specs.declared.joined.Run.{Run}
-use Rattle.pd_shared_leaves.specs.declared.pieces.Piece.{Piece}
+use Rattle.pd_grammar.specs.ThinText.{Line, thin}
+use Rattle.pd_texts.specs.ThinLine.{text_of_line}
+use Rattle.pd_meaning_thin.specs.declared.devices.DeviceRow.{DeviceRow}
+use Rattle.pd_meaning_thin.specs.declared.joined.Run.{Run}
+use Rattle.pd_meaning_thin.specs.declared.pieces.Piece.{Piece}
 use Rattle.pd_pool_dumps.specs.SharedLines.{body_lines, leaf_lines, leaves_lines, piece_line, sharing_lines}
-use Rattle.pd_pool_dumps.proofs.TextLemmas.{text-append}
+use Rattle.pd_pool_dumps.proofs.RunLemmas.{text-append}
 
 -- a piece before others
 pub piece_first : (piece : Piece) (left later : List Piece) → left ≡ piece ∷ later

@@ -1,20 +1,22 @@
 -- The text of a leaf: its first run, the lines of the runs up to the last one, and that one.
+-- The runs of a leaf that were taken so far.
+-- What is left of a device's runs on the way through its tree.
 use Rattle.std.specs.Prelude.{◌≡◌, ℕ, false, List, [], ◌∷◌, ◌++◌, map, Option, Some, None}
 use Rattle.std.specs.List.{AllByRecursion}
 use Rattle.pd_kinds.specs.Graph.{block_at}
 use Rattle.pd_kinds.specs.Meaning.{Mapping}
 use Rattle.pd_kinds.specs.Node.{is_inner_node}
+use Rattle.pd_value.specs.declared.thin.BlockTime.{BlockTime}
 use Rattle.pd_tree.specs.Below.{items_from}
-use Rattle.pd_thin_meaning.specs.declared.joined.Joined.{Joined}
-use Rattle.pd_thin_meaning.specs.declared.joined.Run.{Run}
-use Rattle.pd_thin_meaning.specs.Items.{block_time_of}
-use Rattle.pd_thin_meaning.specs.Joined.{begun_mappings, given_runs, mapping_of}
+use Rattle.pd_tree.specs.Stack.{stack_items}
+use Rattle.pd_meaning_thin.specs.declared.joined.Joined.{Joined}
+use Rattle.pd_meaning_thin.specs.declared.joined.Run.{Run}
+use Rattle.pd_meaning_thin.specs.Runs.{block_time_of, begun_mappings, given_runs, mapping_of}
 use Rattle.pd_pool_dumps.specs.declared.counts.DumpCounts.{DumpCounts}
 use Rattle.pd_pool_dumps.specs.declared.leaf_text.LaterRuns.{LaterRuns}
 use Rattle.pd_pool_dumps.specs.declared.leaf_text.LeafText.{LeafText}
-use Rattle.pd_pool_dumps.specs.Counts.{IsCountOf}
-use Rattle.pd_pool_dumps.specs.RunsPrinted.{given_lines}
-use Rattle.pd_pool_dumps.specs.ThinText.{given_text}
+use Rattle.pd_pool_dumps.specs.ThinText.{IsCountOf, given_lines, given_text}
+use Rattle.pd_pool_dumps.specs.declared.device_walk.DeviceWalk.{DeviceWalk}
 
 -- the mappings of a leaf
 abbrev pub leaf_mappings : List ℕ → List Mapping
@@ -57,3 +59,26 @@ pub record GoesOnWith (later : LaterRuns) (begun whole left : List Run) : Type 0
   pub parts : whole ≡ begun ++ (middle ++ left)
   pub text_is : later.lines.items ≡ given_text middle
   pub counts_are : IsCountOf later.counts (given_lines middle)
+
+-- no run ended yet
+pub record IsBegun (mappings : List Mapping) (joined : Joined) (text : List ℕ) (counts : DumpCounts) : Type 0 where
+  pub one : AreOneRun mappings joined
+  pub no_text : text ≡ []
+  pub no_count : IsCountOf counts []
+
+-- these mappings were taken
+abbrev pub AreTaken : List Mapping → Option Joined → Joined → List ℕ → DumpCounts → Type 0
+AreTaken mappings None joined text counts = IsBegun mappings joined text counts
+AreTaken mappings (Some first) joined text counts = AreBetween mappings first joined text counts
+
+-- the texts that are kept
+abbrev pub kept_texts : DeviceWalk → List LeafText
+kept_texts walk = walk.texts.texts.items
+
+-- the runs of the begun one's mappings and of these entries
+abbrev pub runs_with : DeviceWalk → List (ℕ × BlockTime) → List Run
+runs_with walk items = runs_from walk.joined (map mapping_of items)
+
+-- those that are left
+abbrev pub walk_runs : List (List ℕ) → DeviceWalk → List Run
+walk_runs image walk = runs_with walk (stack_items 8 block_time_of image walk.stack)

@@ -1,10 +1,4 @@
 pub mod ThinText
+pub mod LeafText
 pub mod ThinDump
 pub mod SharedLines
-pub mod SharedDump
-pub mod RunsPrinted
-pub mod LeafText
-pub mod LeafLines
-pub mod DeviceWalk
-pub mod Mapped
-pub mod Counts

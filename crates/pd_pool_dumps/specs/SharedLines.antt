@@ -1,16 +1,15 @@
 -- The lines of a pool's text of version 2, over the bytes of an image alone.
 use Rattle.std.specs.Prelude.{ℕ, ◌+◌, ◌-◌, ◌^◌, min, List, [], ◌∷◌, ◌++◌, map, sum_by}
 use Rattle.std.specs.List.{flat_map}
-use Rattle.pd_kinds.specs.declared.thin_super.ThinSuper.{ThinSuper}
-use Rattle.pd_spells.specs.ThinText.{Line, shared_first_line, pool_line, leaf_line, device_line, use_line, map_line, end_line}
-use Rattle.pd_thin_meaning.specs.declared.devices.DeviceRow.{DeviceRow}
-use Rattle.pd_thin_meaning.specs.declared.joined.Run.{Run}
-use Rattle.pd_thin_meaning.specs.Given.{details_of_row, super_head, super_rows}
-use Rattle.pd_thin_meaning.specs.Joined.{spelled}
-use Rattle.pd_thin_meaning.specs.Runs.{runs_below}
-use Rattle.pd_shared_leaves.specs.declared.pieces.Piece.{Piece}
-use Rattle.pd_shared_leaves.specs.declared.pieces.Piece.TheVariants as pieces
-use Rattle.pd_shared_leaves.specs.Pieces.{pieces_below}
+use Rattle.pd_kinds.specs.declared.superblocks.ThinSuper.{ThinSuper}
+use Rattle.pd_grammar.specs.ThinText.{Line, shared_first_line, pool_line, leaf_line, device_line, use_line, map_line, end_line}
+use Rattle.pd_meaning_thin.specs.declared.devices.DeviceRow.{DeviceRow}
+use Rattle.pd_meaning_thin.specs.declared.joined.Run.{Run}
+use Rattle.pd_meaning_thin.specs.Given.{details_of_row, super_head, super_rows}
+use Rattle.pd_meaning_thin.specs.Runs.{spelled, runs_below}
+use Rattle.pd_meaning_thin.specs.declared.pieces.Piece.{Piece}
+use Rattle.pd_meaning_thin.specs.Pieces.{pieces_below}
+use Rattle.pd_meaning_thin.specs.declared.pieces.Piece.TheVariants as pieces
 
 -- the line of a piece
 abbrev pub piece_line : Piece → Line

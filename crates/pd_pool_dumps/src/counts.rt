@@ -1,10 +1,18 @@
-//! What a dump counts while it puts its lines.
+//! What a dump counts while it puts its lines (`thin_dump`).
 
-ghost use Rattle.std.specs.Prelude.{◌≡◌, []};
-ghost use Rattle.pd_texts.specs.ThinLine.{line_of};
-ghost use Rattle.pd_pool_dumps.specs.Mapped.{mappings_of_line};
+ghost use Rattle.std.specs.Prelude.{◌≡◌, [], ◌∷◌, OnOk};
+ghost use Rattle.pd_grammar.specs.ThinText.{end_line, first_line, thin};
+ghost use Rattle.pd_lines.specs.Printer.{printing};
+ghost use Rattle.pd_lines.specs.Printing.{Prints};
+ghost use Rattle.pd_texts.specs.ThinLine.{line_of, text_of_line};
+ghost use Rattle.pd_query.specs.Query.{SinkFails};
+ghost use Rattle.pd_pool_dumps.specs.ThinText.{mappings_of_line, Counted};
 
-use pd_texts::ThinLine;
+use pd_image::Sink;
+use pd_kinds::Kind;
+use pd_lines::Printer;
+use pd_query::{QueryFault, print_line, print_text_line};
+use pd_texts::{ThinLine, bytes_of_end, bytes_of_first};
 
 /// How many mappings the lines of a dump have, and how many lines there are; up to the end of their type.
 #[derive(Clone, Copy, Debug, PartialEq, Eq)]
@@ -17,8 +25,8 @@ pub struct DumpCounts {
 
 impl DumpCounts {
     ghost use Rattle.std.specs.Prelude.{◌∷◌, List};
-    ghost use Rattle.pd_spells.specs.ThinText.{Line, end_line, first_line};
-    ghost use Rattle.pd_pool_dumps.specs.Counts.{Counted, IsCountOf};
+    ghost use Rattle.pd_grammar.specs.ThinText.{Line, end_line, first_line};
+    ghost use Rattle.pd_pool_dumps.specs.ThinText.{Counted, IsCountOf};
 
     /// No line was counted.
     pub(crate) fn none() -> DumpCounts
@@ -69,4 +77,55 @@ fn mappings_of(line: &ThinLine) -> u64
         ThinLine::Map(run) => run.length,
         _ => 0,
     }
+}
+
+// A line of a pool's text, printed and counted (`thin_dump`).
+
+/// Prints a line of a pool's text, and counts it.
+pub(crate) fn add_line<K: Sink>(
+    line: &ThinLine,
+    printer: &mut Printer<'_, K>,
+    counts: &mut DumpCounts,
+) -> Result<(), QueryFault>
+    requires { (K.state printer.old.out.now).access ≡ 1 }
+    ensures same_reference { printer.new.out.ghost_name ≡ printer.old.out.ghost_name }
+    ensures prints { Prints (text_of_line thin (line_of line.now)) result (printing K.state printer.old) (printing K.state printer.new) }
+    ensures counted { OnOk result (Counted counts.old counts.new (line_of line.now ∷ [])) }
+    ensures faults { SinkFails result (K.state printer.old.out.now).faults (K.state printer.new.out.now).faults }
+{
+    print_text_line(line, printer)?;
+    counts.count(line);
+    Ok(())
+}
+
+/// Prints the first line of a pool's text, and counts it.
+pub(crate) fn add_first_line<K: Sink>(
+    printer: &mut Printer<'_, K>,
+    counts: &mut DumpCounts,
+) -> Result<(), QueryFault>
+    requires { (K.state printer.old.out.now).access ≡ 1 }
+    ensures same_reference { printer.new.out.ghost_name ≡ printer.old.out.ghost_name }
+    ensures prints { Prints (text_of_line thin first_line) result (printing K.state printer.old) (printing K.state printer.new) }
+    ensures counted { OnOk result (Counted counts.old counts.new (first_line ∷ [])) }
+    ensures faults { SinkFails result (K.state printer.old.out.now).faults (K.state printer.new.out.now).faults }
+{
+    print_line(bytes_of_first(Kind::Thin), printer)?;
+    counts.count_first();
+    Ok(())
+}
+
+/// Prints the last line of a text, and counts it.
+pub(crate) fn add_end_line<K: Sink>(
+    printer: &mut Printer<'_, K>,
+    counts: &mut DumpCounts,
+) -> Result<(), QueryFault>
+    requires { (K.state printer.old.out.now).access ≡ 1 }
+    ensures same_reference { printer.new.out.ghost_name ≡ printer.old.out.ghost_name }
+    ensures prints { Prints (text_of_line thin end_line) result (printing K.state printer.old) (printing K.state printer.new) }
+    ensures counted { OnOk result (Counted counts.old counts.new (end_line ∷ [])) }
+    ensures faults { SinkFails result (K.state printer.old.out.now).faults (K.state printer.new.out.now).faults }
+{
+    print_line(bytes_of_end(), printer)?;
+    counts.count_end();
+    Ok(())
 }

@@ -1,12 +1,12 @@
-//! The way through the trees of a pool's devices, on which the lines of their runs are printed.
+//! The way through the trees of a pool's devices, on which the lines of their runs are printed (`thin_dump`).
 
 use crate::counts::DumpCounts;
-use crate::kept_lines::{add_kept, add_run};
+use crate::leaf_lines::{add_kept, add_run};
 use crate::leaf_texts::LeafTexts;
 use pd_image::{Device, Sink};
 use pd_lines::Printer;
+use pd_meaning_thin::Joined;
 use pd_query::QueryFault;
-use pd_thin_meaning::Joined;
 use pd_tree::{Stack, Step};
 use pd_value::BlockTime;
 use std::alloc::{AllocError, Global};
@@ -25,18 +25,18 @@ impl DeviceWalk {
     ghost use Rattle.pd_kinds.specs.Graph.{block_at};
     ghost use Rattle.pd_image.specs.Device.{IsAttached, OnlyReads};
     ghost use Rattle.pd_lines.specs.Printer.{printing};
-    ghost use Rattle.pd_spells.specs.ThinText as p;
+    ghost use Rattle.pd_grammar.specs.ThinText as p;
     ghost use Rattle.pd_tree.specs.Below.{items_below};
     ghost use Rattle.pd_tree.specs.Stack.{child_weight, last_place, stack_items, stack_number};
-    ghost use Rattle.pd_thin_meaning.specs.Items.{block_time_of};
-    ghost use Rattle.pd_thin_meaning.specs.Joined.{spelled};
-    ghost use Rattle.pd_thin_meaning.specs.Runs.{runs_below};
-    ghost use Rattle.pd_pool_dumps.specs.Counts.{CountsSome};
-    ghost use Rattle.pd_pool_dumps.specs.DeviceWalk.{kept_texts, runs_with, walk_runs};
-    ghost use Rattle.pd_query.specs.Failing.{Fails, SinkFails};
+    ghost use Rattle.pd_meaning_thin.specs.Runs.{block_time_of};
+    ghost use Rattle.pd_meaning_thin.specs.Runs.{spelled};
+    ghost use Rattle.pd_meaning_thin.specs.Runs.{runs_below};
+    ghost use Rattle.pd_pool_dumps.specs.ThinText.{CountsSome};
+    ghost use Rattle.pd_pool_dumps.specs.LeafText.{kept_texts, runs_with, walk_runs};
+    ghost use Rattle.pd_query.specs.Query.{Fails, SinkFails};
     ghost use Rattle.pd_pool_dumps.specs.LeafText.{AreKept};
-    ghost use Rattle.pd_query.specs.Puts.{PrintsSome};
-    ghost use Rattle.pd_pool_dumps.specs.RunsPrinted.{PrintsRuns};
+    ghost use Rattle.pd_query.specs.Query.{PrintsSome};
+    ghost use Rattle.pd_pool_dumps.specs.ThinText.{PrintsRuns};
     ghost use Rattle.pd_pool_dumps.specs.ThinText.{given_text};
 
     /// No node, and no text, of a pool with so many metadata blocks.
@@ -69,9 +69,11 @@ impl DeviceWalk {
         requires whole { (last_place self.old.stack).next ≡ 0 }
         requires open { (K.state printer.old.out.now).access ≡ 1 }
         ensures same_reference { printer.new.out.ghost_name ≡ printer.old.out.ghost_name }
-        ensures prints { (held : Option (List (List ℕ))) → PrintsRuns held (λ image. walk_runs image self.old) (λ image. walk_runs image self.new) result
+        ensures prints { (held : Option (List (List ℕ)))
+            → PrintsRuns held (λ image. walk_runs image self.old) (λ image. walk_runs image self.new) result
             (printing K.state printer.old) (printing K.state printer.new) counts.old counts.new }
-        ensures texts { OnOk result ((image : List (List ℕ)) → block_at image b ≡ (last_place self.old.stack).block.0 → AreKept image (kept_texts self.old)
+        ensures texts { OnOk result ((image : List (List ℕ))
+            → block_at image b ≡ (last_place self.old.stack).block.0 → AreKept image (kept_texts self.old)
             → AreKept image (kept_texts self.new)) }
         ensures number { OnOk result (stack_number 8 self.new.stack ≤ stack_number 8 self.old.stack) }
         ensures faults { SinkFails result (K.state printer.old.out.now).faults (K.state printer.new.out.now).faults }
@@ -100,12 +102,15 @@ impl DeviceWalk {
         requires open { (K.state printer.old.out.now).access ≡ 1 }
         ensures same_reference { printer.new.out.ghost_name ≡ printer.old.out.ghost_name }
         ensures prints { PrintsRuns (D.state dev.old).held
-            (λ image. runs_with self.old (items_below 8 block_time_of image (63 - self.old.stack.depth) b ++ stack_items 8 block_time_of image self.old.stack)) (λ image. walk_runs image self.new) result
+            (λ image. runs_with self.old (items_below 8 block_time_of image (63 - self.old.stack.depth) b
+            ++ stack_items 8 block_time_of image self.old.stack)) (λ image. walk_runs image self.new) result
             (printing K.state printer.old) (printing K.state printer.new) counts.old counts.new }
         ensures texts { OnOk result (IfSome (D.state dev.old).held (λ image. AreKept image (kept_texts self.new))) }
-        ensures number { OnOk result (stack_number 8 self.new.stack < stack_number 8 self.old.stack + child_weight (64 - self.old.stack.depth)) }
+        ensures number { OnOk result (stack_number 8 self.new.stack
+            < stack_number 8 self.old.stack + child_weight (64 - self.old.stack.depth)) }
         ensures only_reads { OnlyReads (D.state dev.old) (D.state dev.new) }
-        ensures faults { Fails result (D.state dev.old).faults (D.state dev.new).faults (K.state printer.old.out.now).faults (K.state printer.new.out.now).faults }
+        ensures faults { Fails result (D.state dev.old).faults (D.state dev.new).faults
+            (K.state printer.old.out.now).faults (K.state printer.new.out.now).faults }
     {
         if let Some(text) = self.texts.find(b) {
             return add_kept(text, &mut self.joined, printer, counts);
@@ -130,10 +135,12 @@ impl DeviceWalk {
         requires kept { IfSome (D.state dev.old).held (λ image. AreKept image (kept_texts self.old)) }
         requires open { (K.state printer.old.out.now).access ≡ 1 }
         ensures same_reference { printer.new.out.ghost_name ≡ printer.old.out.ghost_name }
-        ensures prints { PrintsRuns (D.state dev.old).held (λ image. walk_runs image self.old) (λ image. []) result (printing K.state printer.old) (printing K.state printer.new) counts.old counts.new }
+        ensures prints { PrintsRuns (D.state dev.old).held (λ image. walk_runs image self.old)
+            (λ image. []) result (printing K.state printer.old) (printing K.state printer.new) counts.old counts.new }
         ensures texts { OnOk result (IfSome (D.state dev.old).held (λ image. AreKept image (kept_texts self.new))) }
         ensures only_reads { OnlyReads (D.state dev.old) (D.state dev.new) }
-        ensures faults { Fails result (D.state dev.old).faults (D.state dev.new).faults (K.state printer.old.out.now).faults (K.state printer.new.out.now).faults }
+        ensures faults { Fails result (D.state dev.old).faults (D.state dev.new).faults
+            (K.state printer.old.out.now).faults (K.state printer.new.out.now).faults }
     {
         'steps: while !self.stack.is_empty() {
             match self.stack.step::<BlockTime>() {
@@ -159,11 +166,14 @@ impl DeviceWalk {
         requires kept { IfSome (D.state dev.old).held (λ image. AreKept image (kept_texts self.old)) }
         requires open { (K.state printer.old.out.now).access ≡ 1 }
         ensures same_reference { printer.new.out.ghost_name ≡ printer.old.out.ghost_name }
-        ensures prints { PrintsSome (D.state dev.old).held (λ image. given_text (runs_below image root)) result (printing K.state printer.old) (printing K.state printer.new) }
-        ensures counted { OnOk result (CountsSome (D.state dev.old).held (λ image. map p.map_line (map spelled (runs_below image root))) counts.old counts.new) }
+        ensures prints { PrintsSome (D.state dev.old).held
+            (λ image. given_text (runs_below image root)) result (printing K.state printer.old) (printing K.state printer.new) }
+        ensures counted { OnOk result (CountsSome (D.state dev.old).held
+            (λ image. map p.map_line (map spelled (runs_below image root))) counts.old counts.new) }
         ensures texts { OnOk result (IfSome (D.state dev.old).held (λ image. AreKept image (kept_texts self.new))) }
         ensures only_reads { OnlyReads (D.state dev.old) (D.state dev.new) }
-        ensures faults { Fails result (D.state dev.old).faults (D.state dev.new).faults (K.state printer.old.out.now).faults (K.state printer.new.out.now).faults }
+        ensures faults { Fails result (D.state dev.old).faults (D.state dev.new).faults
+            (K.state printer.old.out.now).faults (K.state printer.new.out.now).faults }
     {
         self.stack.clear();
         self.joined = Joined::new();

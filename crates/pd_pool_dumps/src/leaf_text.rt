@@ -1,4 +1,4 @@
-//! The text of a leaf of mappings, made once for all devices that have the leaf.
+//! The text of a leaf of mappings, made once for all devices that have the leaf (`thin_dump`).
 
 ghost use Rattle.std.specs.Prelude.{◌≤◌};
 ghost use Rattle.std.specs.Vec.{vec_len};
@@ -6,7 +6,7 @@ ghost use Rattle.std.specs.Vec.{vec_len};
 use crate::counts::DumpCounts;
 use crate::leaf_lines::lines_of_leaf;
 use pd_kinds::Block;
-use pd_thin_meaning::Joined;
+use pd_meaning_thin::Joined;
 use std::alloc::Global;
 
 /// What follows the first run of a leaf.

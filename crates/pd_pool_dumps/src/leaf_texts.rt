@@ -1,4 +1,4 @@
-//! The texts of the leaves that were met again.
+//! The texts of the leaves that were met again (`thin_dump`).
 
 use crate::leaf_text::LeafText;
 use pd_kinds::Block;
@@ -114,7 +114,8 @@ impl LeafTexts {
 
     /// Keeps a text, if memory is found for it.
     pub(crate) fn keep(&mut self, text: LeafText)
-        ensures { (image : List (List ℕ)) → AreKept image self.old.texts.items → IsKept image text.block text → AreKept image self.new.texts.items }
+        ensures { (image : List (List ℕ)) → AreKept image self.old.texts.items
+            → IsKept image text.block text → AreKept image self.new.texts.items }
     {
         let place = text.block as usize;
         let taken = text.len().saturating_add(ENTRY_BYTES);

@@ -1,41 +1,39 @@
-//! The lines of a pool in whose text each leaf that devices share stands once, printed.
+//! The lines of a pool in whose text each leaf that devices share stands once, printed (`thin_dump --shared`).
 
-ghost use Rattle.std.specs.Prelude.{◌≡◌, ◌+◌, ◌++◌, ◌∷◌, [], map, IfOk, IfSome, length};
+ghost use Rattle.std.specs.Prelude.{◌≡◌, ◌++◌, ◌∷◌, [], map, IfOk, IfSome, length};
 ghost use Rattle.std.specs.List.{flat_map};
 ghost use Rattle.pd_kinds.specs.Objects.{CountsFault};
-ghost use Rattle.pd_image.specs.Device.{IsAttached, OnlyReads};
 ghost use Rattle.pd_grammar.specs.Texts.{text_of_lines};
+ghost use Rattle.pd_grammar.specs.ThinText.{thin};
+ghost use Rattle.pd_grammar.specs.ThinText as p;
+ghost use Rattle.pd_image.specs.Device.{IsAttached, OnlyReads};
 ghost use Rattle.pd_lines.specs.Printer.{printing};
 ghost use Rattle.pd_lines.specs.Printing.{Prints};
-ghost use Rattle.pd_spells.specs.ThinText as p;
-ghost use Rattle.pd_spells.specs.ThinText.{thin};
-ghost use Rattle.pd_texts.specs.Printed.{text_of_line};
-ghost use Rattle.pd_thin_meaning.specs.Devices.{rows_left};
-ghost use Rattle.pd_thin_meaning.specs.Given.{super_head};
-ghost use Rattle.pd_thin_meaning.specs.Runs.{runs_below, runs_left};
-ghost use Rattle.pd_shared_leaves.specs.Leaves.{shared_blocks};
-ghost use Rattle.pd_shared_leaves.specs.Pieces.{pieces_left};
-ghost use Rattle.pd_query.specs.Failing.{Fails, SinkFails};
-ghost use Rattle.pd_query.specs.Puts.{PrintsSome};
-ghost use Rattle.pd_pool_dumps.specs.SharedDump.{body_left};
+ghost use Rattle.pd_texts.specs.ThinLine.{text_of_line};
+ghost use Rattle.pd_meaning_thin.specs.Runs.{rows_left, runs_below, runs_left};
+ghost use Rattle.pd_meaning_thin.specs.Given.{super_head};
+ghost use Rattle.pd_meaning_thin.specs.Walk.{shared_blocks};
+ghost use Rattle.pd_meaning_thin.specs.Pieces.{pieces_left};
+ghost use Rattle.pd_query.specs.Query.{Fails, SinkFails, PrintsSome};
+ghost use Rattle.pd_pool_dumps.specs.ThinDump.{body_left};
 ghost use Rattle.pd_pool_dumps.specs.SharedLines.{entries_in, leaf_lines, leaves_lines, piece_line, pieces_lines, sharing_lines};
 ghost use Rattle.pd_pool_dumps.specs.ThinText.{given_text};
 
-use crate::shared_devices::SharingDevices;
+use crate::shared_dump::SharingDevices;
 use crate::thin_lines::{map_line, pool_line};
 use pd_image::{Device, Failed, Sink};
 use pd_kinds::ThinSuper;
 use pd_lines::Printer;
+use pd_meaning_thin::{DeviceRow, MapRuns, Piece, PieceRuns, SharedLeaves, ThinDevices};
 use pd_query::{QueryFault, print_line, print_text_line};
-use pd_shared_leaves::{Piece, PieceRuns, SharedLeaves};
 use pd_texts::{ThinLine, bytes_of_end, bytes_of_shared_first};
-use pd_thin_meaning::{DeviceRow, MapRuns, ThinDevices};
 
 /// Prints the line of a piece.
 fn print_piece<K: Sink>(piece: &Piece, printer: &mut Printer<'_, K>) -> Result<(), QueryFault>
     requires { (K.state printer.old.out.now).access ≡ 1 }
     ensures same_reference { printer.new.out.ghost_name ≡ printer.old.out.ghost_name }
-    ensures prints { Prints (text_of_line thin (piece_line piece.now)) result (printing K.state printer.old) (printing K.state printer.new) }
+    ensures prints { Prints (text_of_line thin (piece_line piece.now)) result (printing K.state printer.old)
+        (printing K.state printer.new) }
     ensures faults { SinkFails result (K.state printer.old.out.now).faults (K.state printer.new.out.now).faults }
 {
     match piece {
@@ -83,9 +81,11 @@ fn add_runs<D: Device, K: Sink>(
     requires dev { IsAttached (D.state dev.old) }
     requires out { (K.state printer.old.out.now).access ≡ 1 }
     ensures same_reference { printer.new.out.ghost_name ≡ printer.old.out.ghost_name }
-    ensures prints { PrintsSome (D.state dev.old).held (λ image. given_text (runs_left image runs.old)) result (printing K.state printer.old) (printing K.state printer.new) }
+    ensures prints { PrintsSome (D.state dev.old).held
+        (λ image. given_text (runs_left image runs.old)) result (printing K.state printer.old) (printing K.state printer.new) }
     ensures kept { OnlyReads (D.state dev.old) (D.state dev.new) }
-    ensures faults { Fails result (D.state dev.old).faults (D.state dev.new).faults (K.state printer.old.out.now).faults (K.state printer.new.out.now).faults }
+    ensures faults { Fails result (D.state dev.old).faults
+        (D.state dev.new).faults (K.state printer.old.out.now).faults (K.state printer.new.out.now).faults }
 {
     loop {
         let run = match runs.next(dev) {
@@ -109,9 +109,11 @@ fn add_runs_of<D: Device, K: Sink>(
     requires dev { IsAttached (D.state dev.old) }
     requires out { (K.state printer.old.out.now).access ≡ 1 }
     ensures same_reference { printer.new.out.ghost_name ≡ printer.old.out.ghost_name }
-    ensures prints { PrintsSome (D.state dev.old).held (λ image. given_text (runs_below image root)) result (printing K.state printer.old) (printing K.state printer.new) }
+    ensures prints { PrintsSome (D.state dev.old).held
+        (λ image. given_text (runs_below image root)) result (printing K.state printer.old) (printing K.state printer.new) }
     ensures kept { OnlyReads (D.state dev.old) (D.state dev.new) }
-    ensures faults { Fails result (D.state dev.old).faults (D.state dev.new).faults (K.state printer.old.out.now).faults (K.state printer.new.out.now).faults }
+    ensures faults { Fails result (D.state dev.old).faults
+        (D.state dev.new).faults (K.state printer.old.out.now).faults (K.state printer.new.out.now).faults }
 {
     runs.restart(root);
     add_runs(runs, dev, printer)
@@ -128,9 +130,11 @@ fn add_leaf<D: Device, K: Sink>(
     requires dev { IsAttached (D.state dev.old) }
     requires out { (K.state printer.old.out.now).access ≡ 1 }
     ensures same_reference { printer.new.out.ghost_name ≡ printer.old.out.ghost_name }
-    ensures prints { PrintsSome (D.state dev.old).held (λ image. text_of_lines thin (leaf_lines image number block)) result (printing K.state printer.old) (printing K.state printer.new) }
+    ensures prints { PrintsSome (D.state dev.old).held
+        (λ image. text_of_lines thin (leaf_lines image number block)) result (printing K.state printer.old) (printing K.state printer.new) }
     ensures kept { OnlyReads (D.state dev.old) (D.state dev.new) }
-    ensures faults { Fails result (D.state dev.old).faults (D.state dev.new).faults (K.state printer.old.out.now).faults (K.state printer.new.out.now).faults }
+    ensures faults { Fails result (D.state dev.old).faults
+        (D.state dev.new).faults (K.state printer.old.out.now).faults (K.state printer.new.out.now).faults }
 {
     let entries = match count_runs_of(block, runs, dev) {
         Ok(entries) => entries,
@@ -150,9 +154,11 @@ fn add_leaves<D: Device, K: Sink>(
     requires dev { IsAttached (D.state dev.old) }
     requires out { (K.state printer.old.out.now).access ≡ 1 }
     ensures same_reference { printer.new.out.ghost_name ≡ printer.old.out.ghost_name }
-    ensures prints { PrintsSome (D.state dev.old).held (λ image. text_of_lines thin (leaves_lines image 0 (shared_blocks shared.now))) result (printing K.state printer.old) (printing K.state printer.new) }
+    ensures prints { PrintsSome (D.state dev.old).held (λ image. text_of_lines thin
+        (leaves_lines image 0 (shared_blocks shared.now))) result (printing K.state printer.old) (printing K.state printer.new) }
     ensures kept { OnlyReads (D.state dev.old) (D.state dev.new) }
-    ensures faults { Fails result (D.state dev.old).faults (D.state dev.new).faults (K.state printer.old.out.now).faults (K.state printer.new.out.now).faults }
+    ensures faults { Fails result (D.state dev.old).faults
+        (D.state dev.new).faults (K.state printer.old.out.now).faults (K.state printer.new.out.now).faults }
 {
     for number in 0..shared.len() {
         add_leaf(number, shared.block(number), runs, dev, printer)?;
@@ -170,9 +176,11 @@ fn add_pieces<D: Device, K: Sink>(
     requires dev { IsAttached (D.state dev.old) }
     requires out { (K.state printer.old.out.now).access ≡ 1 }
     ensures same_reference { printer.new.out.ghost_name ≡ printer.old.out.ghost_name }
-    ensures prints { PrintsSome (D.state dev.old).held (λ image. text_of_lines thin (map piece_line (pieces_left (shared_blocks shared.now) image pieces.old))) result (printing K.state printer.old) (printing K.state printer.new) }
+    ensures prints { PrintsSome (D.state dev.old).held (λ image. text_of_lines thin (map piece_line
+        (pieces_left (shared_blocks shared.now) image pieces.old))) result (printing K.state printer.old) (printing K.state printer.new) }
     ensures kept { OnlyReads (D.state dev.old) (D.state dev.new) }
-    ensures faults { Fails result (D.state dev.old).faults (D.state dev.new).faults (K.state printer.old.out.now).faults (K.state printer.new.out.now).faults }
+    ensures faults { Fails result (D.state dev.old).faults
+        (D.state dev.new).faults (K.state printer.old.out.now).faults (K.state printer.new.out.now).faults }
 {
     loop {
         let piece = match pieces.next(shared, dev) {
@@ -197,9 +205,11 @@ fn add_pieces_of<D: Device, K: Sink>(
     requires dev { IsAttached (D.state dev.old) }
     requires out { (K.state printer.old.out.now).access ≡ 1 }
     ensures same_reference { printer.new.out.ghost_name ≡ printer.old.out.ghost_name }
-    ensures prints { PrintsSome (D.state dev.old).held (λ image. text_of_lines thin (pieces_lines (shared_blocks shared.now) image root)) result (printing K.state printer.old) (printing K.state printer.new) }
+    ensures prints { PrintsSome (D.state dev.old).held (λ image. text_of_lines thin
+        (pieces_lines (shared_blocks shared.now) image root)) result (printing K.state printer.old) (printing K.state printer.new) }
     ensures kept { OnlyReads (D.state dev.old) (D.state dev.new) }
-    ensures faults { Fails result (D.state dev.old).faults (D.state dev.new).faults (K.state printer.old.out.now).faults (K.state printer.new.out.now).faults }
+    ensures faults { Fails result (D.state dev.old).faults
+        (D.state dev.new).faults (K.state printer.old.out.now).faults (K.state printer.new.out.now).faults }
 {
     pieces.restart(root);
     add_pieces(pieces, shared, dev, printer)
@@ -216,9 +226,11 @@ fn add_sharing_device<D: Device, K: Sink>(
     requires dev { IsAttached (D.state dev.old) }
     requires out { (K.state printer.old.out.now).access ≡ 1 }
     ensures same_reference { printer.new.out.ghost_name ≡ printer.old.out.ghost_name }
-    ensures prints { PrintsSome (D.state dev.old).held (λ image. text_of_lines thin (sharing_lines (shared_blocks shared.now) image row.now)) result (printing K.state printer.old) (printing K.state printer.new) }
+    ensures prints { PrintsSome (D.state dev.old).held (λ image. text_of_lines thin
+        (sharing_lines (shared_blocks shared.now) image row.now)) result (printing K.state printer.old) (printing K.state printer.new) }
     ensures kept { OnlyReads (D.state dev.old) (D.state dev.new) }
-    ensures faults { Fails result (D.state dev.old).faults (D.state dev.new).faults (K.state printer.old.out.now).faults (K.state printer.new.out.now).faults }
+    ensures faults { Fails result (D.state dev.old).faults
+        (D.state dev.new).faults (K.state printer.old.out.now).faults (K.state printer.new.out.now).faults }
 {
     let line = ThinLine::Device {
         id: row.id,
@@ -239,9 +251,12 @@ fn add_sharing_devices<D: Device, K: Sink>(
     requires dev { IsAttached (D.state dev.old) }
     requires out { (K.state printer.old.out.now).access ≡ 1 }
     ensures same_reference { printer.new.out.ghost_name ≡ printer.old.out.ghost_name }
-    ensures prints { PrintsSome (D.state dev.old).held (λ image. text_of_lines thin (flat_map (sharing_lines (shared_blocks shared.now) image) (rows_left image devices.old))) result (printing K.state printer.old) (printing K.state printer.new) }
+    ensures prints { PrintsSome (D.state dev.old).held
+        (λ image. text_of_lines thin (flat_map (sharing_lines (shared_blocks shared.now) image) (rows_left image devices.old))) result
+        (printing K.state printer.old) (printing K.state printer.new) }
     ensures kept { OnlyReads (D.state dev.old) (D.state dev.new) }
-    ensures faults { Fails result (D.state dev.old).faults (D.state dev.new).faults (K.state printer.old.out.now).faults (K.state printer.new.out.now).faults }
+    ensures faults { Fails result (D.state dev.old).faults
+        (D.state dev.new).faults (K.state printer.old.out.now).faults (K.state printer.new.out.now).faults }
 {
     loop {
         let row = match devices.next(dev) {
@@ -264,9 +279,11 @@ fn add_body<D: Device, K: Sink>(
     requires dev { IsAttached (D.state dev.old) }
     requires out { (K.state printer.old.out.now).access ≡ 1 }
     ensures same_reference { printer.new.out.ghost_name ≡ printer.old.out.ghost_name }
-    ensures prints { PrintsSome (D.state dev.old).held (λ image. text_of_lines thin (body_left image sharing.old)) result (printing K.state printer.old) (printing K.state printer.new) }
+    ensures prints { PrintsSome (D.state dev.old).held
+        (λ image. text_of_lines thin (body_left image sharing.old)) result (printing K.state printer.old) (printing K.state printer.new) }
     ensures kept { OnlyReads (D.state dev.old) (D.state dev.new) }
-    ensures faults { Fails result (D.state dev.old).faults (D.state dev.new).faults (K.state printer.old.out.now).faults (K.state printer.new.out.now).faults }
+    ensures faults { Fails result (D.state dev.old).faults
+        (D.state dev.new).faults (K.state printer.old.out.now).faults (K.state printer.new.out.now).faults }
 {
     add_leaves(&sharing.shared, &mut sharing.runs, dev, printer)?;
     add_sharing_devices(
@@ -298,9 +315,11 @@ pub(crate) fn add_shared_pool<D: Device, K: Sink>(
     requires dev { IsAttached (D.state dev.old) }
     requires out { (K.state printer.old.out.now).access ≡ 1 }
     ensures same_reference { printer.new.out.ghost_name ≡ printer.old.out.ghost_name }
-    ensures prints { PrintsSome (D.state dev.old).held (λ image. text_of_lines thin (p.shared_first_line ∷ (p.pool_line (super_head s.now) ∷ (body_left image sharing.old ++ (p.end_line ∷ []))))) result (printing K.state printer.old) (printing K.state printer.new) }
+    ensures prints { PrintsSome (D.state dev.old).held (λ image. text_of_lines thin (p.shared_first_line ∷ (p.pool_line (super_head s.now)
+        ∷ (body_left image sharing.old ++ (p.end_line ∷ []))))) result (printing K.state printer.old) (printing K.state printer.new) }
     ensures kept { OnlyReads (D.state dev.old) (D.state dev.new) }
-    ensures faults { Fails result (D.state dev.old).faults (D.state dev.new).faults (K.state printer.old.out.now).faults (K.state printer.new.out.now).faults }
+    ensures faults { Fails result (D.state dev.old).faults
+        (D.state dev.new).faults (K.state printer.old.out.now).faults (K.state printer.new.out.now).faults }
 {
     add_shared_first(printer)?;
     print_text_line(&pool_line(s), printer)?;

@@ -1,4 +1,4 @@
-//! The dump of a pool.
+//! The dump of a pool (`thin_dump`).
 
 use crate::counts::DumpCounts;
 use crate::device_walk::DeviceWalk;
@@ -6,8 +6,8 @@ use crate::thin_lines::add_pool;
 use pd_image::{Device, Sink};
 use pd_kinds::{MAX_META_BLOCKS, ThinSuper};
 use pd_lines::Printer;
+use pd_meaning_thin::{ThinDevices, given_lines_are_the_text, rows_are_the_devices};
 use pd_query::{Query, QueryFault, read_super};
-use pd_thin_meaning::{ThinDevices, given_lines_are_the_text, rows_are_the_devices};
 use std::alloc::{AllocError, Global};
 
 /// The dump of a pool, with the memory that it takes.
@@ -25,16 +25,16 @@ impl ThinDump {
     ghost use Rattle.pd_kinds.specs.Graph.{block_at};
     ghost use Rattle.pd_kinds.specs.Meaning.{thin_meaning};
     ghost use Rattle.pd_kinds.specs.Stages.{faults};
-    ghost use Rattle.pd_kinds.specs.ThinSuper.{thin_fields};
+    ghost use Rattle.pd_kinds.specs.ThinFormat.{thin_fields};
     ghost use Rattle.pd_image.specs.Device.{IsAttached, OnlyReads};
     ghost use Rattle.pd_image.specs.Sink.{KeepsSink};
-    ghost use Rattle.pd_spells.specs.ThinText.{text_of_pool};
-    ghost use Rattle.pd_query.specs.Puts.{PutsText};
-    ghost use Rattle.pd_query.specs.Failing.{Fails, StartFails};
-    ghost use Rattle.pd_pool_dumps.specs.Counts.{IsCountOf};
+    ghost use Rattle.pd_grammar.specs.ThinText.{text_of_pool};
+    ghost use Rattle.pd_query.specs.Query.{PutsText};
+    ghost use Rattle.pd_query.specs.Query.{Fails, StartFails};
+    ghost use Rattle.pd_pool_dumps.specs.ThinText.{IsCountOf};
     ghost use Rattle.pd_pool_dumps.specs.ThinDump.{lines_left, text_left, used_of};
     ghost use Rattle.pd_pool_dumps.specs.ThinText.{dump_text};
-    ghost use Rattle.pd_thin_meaning.specs.Given.{super_lines};
+    ghost use Rattle.pd_meaning_thin.specs.Given.{super_lines};
 
     /// Reads the superblock of a pool, and takes the memory for its dump: three cursors over trees, and 4 bytes a metadata
     /// block for which leaves were met.
@@ -42,10 +42,14 @@ impl ThinDump {
     /// Fails with `Device` where a read failed, and with `Memory` where that memory wasn't found.
     pub fn start<D: Device>(alloc: Global, dev: &mut D) -> Result<ThinDump, QueryFault>
         requires { IsAttached (D.state dev.old) }
-        ensures text { IfOk result (λ dump. IfSome (D.state dev.old).held (λ image. 1 ≤ length image → text_left image dump ≡ dump_text image (thin_fields (block_at image 0)))) }
-        ensures means { IfOk result (λ dump. IfSome (D.state dev.old).held (λ image. faults Thin Whole image ≡ [] → text_left image dump ≡ text_of_pool (thin_meaning image))) }
-        ensures lines { IfOk result (λ dump. IfSome (D.state dev.old).held (λ image. 1 ≤ length image → lines_left image dump ≡ super_lines image (thin_fields (block_at image 0)))) }
-        ensures used { IfOk result (λ dump. IfSome (D.state dev.old).held (λ image. 1 ≤ length image → used_of dump ≡ (thin_fields (block_at image 0)).meta_map.allocated)) }
+        ensures text { IfOk result (λ dump. IfSome (D.state dev.old).held (λ image. 1 ≤ length image
+            → text_left image dump ≡ dump_text image (thin_fields (block_at image 0)))) }
+        ensures means { IfOk result (λ dump. IfSome (D.state dev.old).held
+            (λ image. faults Thin Whole image ≡ [] → text_left image dump ≡ text_of_pool (thin_meaning image))) }
+        ensures lines { IfOk result (λ dump. IfSome (D.state dev.old).held (λ image. 1 ≤ length image
+            → lines_left image dump ≡ super_lines image (thin_fields (block_at image 0)))) }
+        ensures used { IfOk result (λ dump. IfSome (D.state dev.old).held (λ image. 1 ≤ length image
+            → used_of dump ≡ (thin_fields (block_at image 0)).meta_map.allocated)) }
         ensures kept { OnlyReads (D.state dev.old) (D.state dev.new) }
         ensures faults { StartFails result (D.state dev.old).faults (D.state dev.new).faults }
     {
@@ -85,7 +89,8 @@ impl ThinDump {
     pub fn put<D: Device, K: Sink>(&mut self, dev: &mut D, out: &mut K) -> Result<(), QueryFault>
         requires dev { IsAttached (D.state dev.old) }
         requires out { (K.state out.old).access ≡ 1 }
-        ensures text { PutsText (D.state dev.old).held (λ image. text_left image self.old) result (K.state out.old).written (K.state out.new).written }
+        ensures text { PutsText (D.state dev.old).held
+            (λ image. text_left image self.old) result (K.state out.old).written (K.state out.new).written }
         ensures kept { OnlyReads (D.state dev.old) (D.state dev.new) }
         ensures sink { KeepsSink (K.state out.old) (K.state out.new) }
         ensures faults { Fails result (D.state dev.old).faults (D.state dev.new).faults (K.state out.old).faults (K.state out.new).faults }
@@ -102,7 +107,8 @@ impl ThinDump {
     ) -> Result<DumpCounts, QueryFault>
         requires dev { IsAttached (D.state dev.old) }
         requires out { (K.state out.old).access ≡ 1 }
-        ensures text { PutsText (D.state dev.old).held (λ image. text_left image self.old) result (K.state out.old).written (K.state out.new).written }
+        ensures text { PutsText (D.state dev.old).held
+            (λ image. text_left image self.old) result (K.state out.old).written (K.state out.new).written }
         ensures counted { IfOk result (λ counts. IfSome (D.state dev.old).held (λ image. IsCountOf counts (lines_left image self.old))) }
         ensures kept { OnlyReads (D.state dev.old) (D.state dev.new) }
         ensures sink { KeepsSink (K.state out.old) (K.state out.new) }
@@ -135,8 +141,8 @@ impl Query for TextOfPool {
     ghost use Rattle.pd_kinds.specs.declared.kind.Kind.TheVariants.{Thin};
     ghost use Rattle.pd_kinds.specs.declared.kind.Stage.TheVariants.{Whole};
     ghost use Rattle.pd_kinds.specs.Meaning.{thin_meaning};
-    ghost use Rattle.pd_spells.specs.ThinText.{text_of_pool};
-    ghost use Rattle.pd_query.specs.Sound.{IfSound};
+    ghost use Rattle.pd_grammar.specs.ThinText.{text_of_pool};
+    ghost use Rattle.pd_query.specs.Query.{IfSound};
     ghost use Rattle.pd_pool_dumps.specs.ThinDump.{text_left};
 
     type Started = ThinDump;

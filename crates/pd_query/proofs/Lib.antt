@@ -1,2 +1,1 @@
-pub mod PutsLemmas
 pub mod QueryLemmas

@@ -1,3 +1,1 @@
-pub mod Puts
-pub mod Failing
-pub mod Sound
+pub mod Query

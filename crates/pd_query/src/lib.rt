@@ -4,12 +4,6 @@
 //! that comes to in an image without faults.
 #![tactic(auto)]
 
-mod fault;
-mod lines;
-mod pool_super;
 mod query;
 
-pub use fault::QueryFault;
-pub use lines::{finish, print_line, print_text_line};
-pub use pool_super::read_super;
-pub use query::Query;
+pub use query::{Query, QueryFault, finish, print_line, print_text_line, read_super};

@@ -1,6 +1,5 @@
-pub mod BrokenLemmas
 pub mod SuperLemmas
 pub mod SnapLemmas
+pub mod CacheLemmas
 pub mod SeenLemmas
 pub mod SeenShapes
-pub mod SeeingLemmas

@@ -4,16 +4,16 @@ use Rattle.std.specs.List.{AllByRecursion}
 use Rattle.std.specs.Prelude.{fold}
 use Rattle.std.proofs.lemmas.List.Sums.{sum_by-cons}
 use Rattle.pd_kinds.specs.Meaning.{ThinDevice, ThinPool}
+use Rattle.pd_grammar.specs.Lawful.{AreDevices, IsLawfulPool}
+use Rattle.pd_grammar.specs.Need.{mapped_data}
+use Rattle.pd_grammar.specs.ThinText.{device_of_part}
+use Rattle.pd_answers.specs.Searches.{raised_time, seen_device, seen_pool, seen_snap, seen_time, timed_pool}
 use Rattle.pd_count.specs.Counted.{Counted}
-use Rattle.pd_answers.specs.Seen.{raised_time, seen_device, seen_pool, seen_snap, seen_time, timed_pool}
-use Rattle.pd_spells.specs.Lawful.{AreDevices, IsLawfulPool}
-use Rattle.pd_spells.specs.ThinNeed.{mapped_data}
-use Rattle.pd_spells.specs.ThinText.{device_of_part}
-use Rattle.pd_thin_meaning.specs.declared.joined.Run.{Run}
+use Rattle.pd_meaning_thin.specs.declared.joined.Run.{Run}
+use Rattle.pd_restore.specs.ShapeNeed.{HasCountedThrice}
 use Rattle.pd_salvage.specs.declared.saved.SavedDevice.{SavedDevice}
 use Rattle.pd_salvage.specs.Gather.{mappings_of_runs}
 use Rattle.pd_salvage.specs.Saved.{IsJoined, IsSavedPool, SavedPool, parts_of, pool_of, runs_of_devices, with_devices}
-use Rattle.pd_restore.specs.Overflowing.{HasCountedThrice}
 use Rattle.pd_repair.specs.Snaps.{is_twice, seen_devices, snap_after, snapped_at}
 use Rattle.pd_repair.proofs.SnapLemmas.{counted_snap, snap_fits, stands_twice}
 

@@ -4,17 +4,17 @@ use Rattle.std.specs.List.{AllByRecursion, flat_map, list_any}
 use Rattle.std.specs.Prelude.{fold, sum_by}
 use Rattle.std.proofs.lemmas.List.Sums.{sum_by-cons}
 use Rattle.pd_kinds.specs.Meaning.{Mapping, ThinDevice}
-use Rattle.pd_count.specs.Counted.{Counted}
-use Rattle.pd_answers.specs.Seen.{raised_time, seen_device, seen_pool, seen_shape, seen_snap, seen_time, timed_pool, timed_shape}
+use Rattle.pd_grammar.specs.Lawful.{IsLawfulPool}
+use Rattle.pd_grammar.specs.Need.{mapped_data}
 use Rattle.pd_laid.specs.Shape.{ArePieces, IsShape, ShapeDevice, ThinShape, device_of, pool_of, uses_of}
-use Rattle.pd_shapes.specs.SharedText.{device_of_part, mappings_of_runs}
-use Rattle.pd_spells.specs.Lawful.{IsLawfulPool}
-use Rattle.pd_spells.specs.ThinNeed.{mapped_data}
-use Rattle.pd_thin_meaning.specs.declared.joined.Run.{Run}
+use Rattle.pd_laid.specs.PoolText.{device_of_part, mappings_of_runs}
+use Rattle.pd_answers.specs.Searches.{raised_time, seen_device, seen_pool, seen_shape, seen_snap, seen_time, timed_pool, timed_shape}
+use Rattle.pd_count.specs.Counted.{Counted}
+use Rattle.pd_meaning_thin.specs.declared.joined.Run.{Run}
+use Rattle.pd_restore.specs.ShapeNeed.{HasCountedThrice}
 use Rattle.pd_salvage.specs.declared.saved_shape.SavedPiece.{SavedPiece}
 use Rattle.pd_salvage.specs.declared.saved_shape.ShapedDevice.{ShapedDevice}
 use Rattle.pd_salvage.specs.SavedShape.{HeldShape, IsPartJoined, IsSavedShape, device_parts, held_shape, leaf_parts, runs_of_pieces, with_devices}
-use Rattle.pd_restore.specs.Overflowing.{HasCountedThrice}
 use Rattle.pd_repair.specs.Snaps.{is_twice, mappings_of_pieces, seen_shaped, snap_after, snapped_at}
 use Rattle.pd_repair.proofs.SeenLemmas.{device_snap, lawful_seen}
 

@@ -1,12 +1,12 @@
 -- The faults of what a repair calls, as its own, and how the writing ended.
 use Rattle.std.specs.Prelude.{Result, Ok, Err}
-use Rattle.pd_salvage.specs.declared.fault.SalvageFault.{SalvageFault}
-use Rattle.pd_salvage.specs.declared.fault.SalvageFault.TheVariants as s
-use Rattle.pd_restoring.specs.declared.made.MadeFault.{MadeFault}
-use Rattle.pd_restoring.specs.declared.made.MadeFault.TheVariants as m
+use Rattle.pd_restoring.specs.declared.fault.MadeFault.{MadeFault}
 use Rattle.pd_restoring.specs.Made.{Ending, done, failed, lacking, short, unbegun}
-use Rattle.pd_repair.specs.declared.fault.RepairFault.{RepairFault}
-use Rattle.pd_repair.specs.declared.fault.RepairFault.TheVariants.{Memory, Input, Output, NoSuper, NoRoom}
+use Rattle.pd_restoring.specs.declared.fault.MadeFault.TheVariants as m
+use Rattle.pd_salvage.specs.declared.saved.SalvageFault.{SalvageFault}
+use Rattle.pd_salvage.specs.declared.saved.SalvageFault.TheVariants as s
+use Rattle.pd_repair.specs.declared.repair.RepairFault.{RepairFault}
+use Rattle.pd_repair.specs.declared.repair.RepairFault.TheVariants.{Memory, Input, Output, NoSuper, NoRoom}
 
 abbrev pub salvage_fault : SalvageFault → RepairFault
 salvage_fault s.Memory = Memory

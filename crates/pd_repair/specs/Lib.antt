@@ -1,4 +1,4 @@
+pub mod Snaps
+pub mod CacheRepaired
 pub mod Faults
 pub mod Repaired
-pub mod Snaps
-pub mod Lost

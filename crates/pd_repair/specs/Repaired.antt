@@ -1,22 +1,20 @@
 -- What a repair promises.
 use Rattle.std.specs.Prelude.{◌≡◌, ◌≢◌, ℕ, ◌≤◌, ◌^◌, false, List, [], length, slice_get, Option, Some, Result, Err, IfSome, MatchResult}
-use Rattle.pd_kinds.specs.declared.fault.Fault.{Fault}
+use Rattle.pd_kinds.specs.declared.rule.Fault.{Fault}
 use Rattle.pd_kinds.specs.declared.rule.Rule.{Rule}
 use Rattle.pd_kinds.specs.declared.kind.Kind.TheVariants.{Thin}
 use Rattle.pd_kinds.specs.declared.kind.Stage.TheVariants.{Super}
 use Rattle.pd_kinds.specs.declared.rules.Rules.{Rules}
-use Rattle.pd_kinds.specs.Faults.{faults_at}
+use Rattle.pd_kinds.specs.Rule.{faults_at, has_rule}
 use Rattle.pd_kinds.specs.Graph.{block_at}
 use Rattle.pd_kinds.specs.Objects.{DeviceState, Rose}
-use Rattle.pd_kinds.specs.RuleSet.{has_rule}
 use Rattle.pd_kinds.specs.Stages.{faults}
-use Rattle.pd_kinds.specs.ThinSuper.{ThinFields, thin_fields, thin_super_bad}
-use Rattle.pd_laid.specs.Salvage.{salvage, salvage_from}
-use Rattle.pd_shapes.specs.SavedShape.{saved_shape, saved_shape_from}
+use Rattle.pd_kinds.specs.ThinFormat.{ThinFields, thin_fields, thin_super_bad}
+use Rattle.pd_laid.specs.Salvage.{salvage, salvage_from, saved_shape, saved_shape_from}
 use Rattle.pd_restoring.specs.Made.{Content, IsMade, unbegun}
-use Rattle.pd_restore.specs.Made.{pool_content, shape_content}
-use Rattle.pd_repair.specs.declared.fault.RepairFault.{RepairFault}
-use Rattle.pd_repair.specs.declared.fault.RepairFault.TheVariants.{Memory, Input, Output, NoSuper, NoRoom}
+use Rattle.pd_restore.specs.Pools.{pool_content, shape_content}
+use Rattle.pd_repair.specs.declared.repair.RepairFault.{RepairFault}
+use Rattle.pd_repair.specs.declared.repair.RepairFault.TheVariants.{Memory, Input, Output, NoSuper, NoRoom}
 use Rattle.pd_repair.specs.Faults.{output_ending}
 
 -- a repair from a superblock of these fields, which writes what is saved of the pool as this content

@@ -1,12 +1,16 @@
 -- When devices are snapped, by how often data blocks were counted.
+-- What is saved of a pool whose superblock is lost: sharing is seen in it.
 use Rattle.std.specs.Prelude.{ℕ, ◌+◌, max, Bool, nat_lt, List, [], ◌∷◌, map, filter, fold, take, drop}
 use Rattle.std.specs.List.{flat_map}
-use Rattle.pd_kinds.specs.Meaning.{Mapping}
-use Rattle.pd_count.specs.Counted.{Counted, count_of}
-use Rattle.pd_laid.specs.Shape.{piece_mappings}
-use Rattle.pd_shapes.specs.SharedText.{piece_of_part}
-use Rattle.pd_thin_meaning.specs.declared.joined.Run.{Run}
+use Rattle.pd_kinds.specs.Meaning.{Mapping, ThinPool}
+use Rattle.pd_kinds.specs.ThinFormat.{ThinFields}
+use Rattle.pd_laid.specs.Shape.{piece_mappings, ThinShape}
+use Rattle.pd_laid.specs.PoolText.{piece_of_part}
+use Rattle.pd_laid.specs.Salvage.{salvage_from, saved_shape_from}
+use Rattle.pd_answers.specs.Searches.{seen_pool, seen_shape, timed_pool, timed_shape}
 use Rattle.pd_value.specs.declared.thin.Details.{Details}
+use Rattle.pd_count.specs.Counted.{Counted, count_of}
+use Rattle.pd_meaning_thin.specs.declared.joined.Run.{Run}
 use Rattle.pd_salvage.specs.declared.saved.SavedDevice.{SavedDevice}
 use Rattle.pd_salvage.specs.declared.saved_shape.SavedPiece.{SavedPiece}
 use Rattle.pd_salvage.specs.declared.saved_shape.ShapedDevice.{ShapedDevice}
@@ -50,3 +54,10 @@ seen_shaped test leaves (d ∷ ds) pieces runs =
       pieces = d.pieces;
     }
     ∷ seen_shaped test leaves ds (drop d.pieces pieces) (drop (runs_of_pieces (take d.pieces pieces)) runs)
+
+-- by a superblock with these fields, with this as the pool's time, with the shared leaves or without
+abbrev pub seen_from : ℕ → ThinFields → List (List ℕ) → ThinPool
+seen_from time fields image = seen_pool (timed_pool time (salvage_from fields image))
+
+abbrev pub seen_shape_from : ℕ → ThinFields → List (List ℕ) → ThinShape
+seen_shape_from time fields image = seen_shape (timed_shape time (saved_shape_from fields image))

@@ -1,12 +1,12 @@
-//! A repair of a pool whose superblock is lost: sharing is seen in what is written.
+//! A repair of a pool whose superblock is lost: sharing is seen in what is written (`thin_repair`).
 
-ghost use Rattle.std.specs.Prelude.{◌≡◌, ◌≤◌, ◌^◌};
+ghost use Rattle.std.specs.Prelude.{◌≤◌, ◌^◌};
 ghost use Rattle.pd_image.specs.Device.{IsAttached, IsWritable, KeepsPlace, OnlyReads};
-ghost use Rattle.pd_restore.specs.Made.{pool_content, shape_content};
+ghost use Rattle.pd_restore.specs.Pools.{pool_content, shape_content};
 ghost use Rattle.pd_repair.specs.Repaired.{CountsRepair, HasSuper, IsRepairedFromAs};
-ghost use Rattle.pd_repair.specs.Lost.{seen_from, seen_shape_from};
+ghost use Rattle.pd_repair.specs.Snaps.{seen_from, seen_shape_from};
 
-use crate::fault::RepairFault;
+use crate::repair::RepairFault;
 use crate::seen::see_pool;
 use crate::seen_shape::see_shape;
 use pd_image::Device;
@@ -34,11 +34,13 @@ pub fn repair_seen<A: Device, B: Device>(
     requires there { s.now.meta_map.blocks ≤ (A.state input.old).blocks }
     requires few { s.now.meta_map.blocks ≤ 4161600 }
     requires data { s.now.data_map.blocks ≤ 2 ^ 40 }
-    ensures repaired { IsRepairedFromAs pool_content (seen_from time) s.now result (A.state input.old) (B.state output.old) (B.state output.new) }
+    ensures repaired { IsRepairedFromAs pool_content (seen_from time) s.now result (A.state input.old) (B.state output.old)
+        (B.state output.new) }
     ensures sound { HasSuper result }
     ensures input { OnlyReads (A.state input.old) (A.state input.new) }
     ensures place { KeepsPlace (B.state output.old) (B.state output.new) }
-    ensures causes { CountsRepair result (A.state input.old).faults (A.state input.new).faults (B.state output.old).faults (B.state output.new).faults }
+    ensures causes { CountsRepair result (A.state input.old).faults
+        (A.state input.new).faults (B.state output.old).faults (B.state output.new).faults }
 {
     let saved = salvage(alloc, input, s)?;
     let seen = see_pool(alloc, saved, time)?;
@@ -62,11 +64,13 @@ pub fn repair_seen_shared<A: Device, B: Device>(
     requires there { s.now.meta_map.blocks ≤ (A.state input.old).blocks }
     requires few { s.now.meta_map.blocks ≤ 4161600 }
     requires data { s.now.data_map.blocks ≤ 2 ^ 40 }
-    ensures repaired { IsRepairedFromAs shape_content (seen_shape_from time) s.now result (A.state input.old) (B.state output.old) (B.state output.new) }
+    ensures repaired { IsRepairedFromAs shape_content (seen_shape_from time) s.now result (A.state input.old) (B.state output.old)
+        (B.state output.new) }
     ensures sound { HasSuper result }
     ensures input { OnlyReads (A.state input.old) (A.state input.new) }
     ensures place { KeepsPlace (B.state output.old) (B.state output.new) }
-    ensures causes { CountsRepair result (A.state input.old).faults (A.state input.new).faults (B.state output.old).faults (B.state output.new).faults }
+    ensures causes { CountsRepair result (A.state input.old).faults
+        (A.state input.new).faults (B.state output.old).faults (B.state output.new).faults }
 {
     let saved = salvage_shape(alloc, input, s)?;
     let seen = see_shape(alloc, saved, time)?;

@@ -1,21 +1,21 @@
 //! A saved pool with its shared leaves, in which sharing is seen: each device is snapped after those of its mappings whose data
-//! blocks other mappings lead to.
+//! blocks other mappings lead to (`thin_repair`).
 
-ghost use Rattle.std.specs.Prelude.{◌≡◌, ℕ, List, drop, fold, length, map, max, slice_index, sum_by, take, IfOk};
+ghost use Rattle.std.specs.Prelude.{◌≡◌, List, drop, fold, length, map, max, slice_index, sum_by, take, IfOk};
 ghost use Rattle.std.specs.List.{AllByRecursion};
 ghost use Rattle.pd_kinds.specs.Meaning.{Mapping};
-ghost use Rattle.pd_answers.specs.Seen.{seen_shape, timed_shape};
 ghost use Rattle.pd_laid.specs.Shape.{piece_mappings};
-ghost use Rattle.pd_shapes.specs.SharedText.{piece_of_part, mappings_of_runs};
-ghost use Rattle.pd_runs.specs.Places.{runs_from};
+ghost use Rattle.pd_laid.specs.PoolText.{piece_of_part, mappings_of_runs};
+ghost use Rattle.pd_answers.specs.Searches.{seen_shape, timed_shape};
+ghost use Rattle.pd_meaning_thin.specs.Packed.{runs_from};
+ghost use Rattle.pd_restore.specs.ShapeNeed.{IsRunIn};
 ghost use Rattle.pd_salvage.specs.declared.saved_shape.ShapedDevice.{ShapedDevice as Device};
 ghost use Rattle.pd_salvage.specs.SavedShape.{held_shape, leaf_parts, piece_part, runs_of_piece, runs_of_pieces};
-ghost use Rattle.pd_restore.specs.Overflowing.{IsRunIn};
 ghost use Rattle.pd_repair.specs.Snaps.{is_twice, mappings_of_pieces, seen_shaped, snap_after, snaps_of};
 
-use crate::snaps::{raised_time, snap_of_runs};
+use crate::seen::{raised_time, snap_of_runs};
+use pd_meaning_thin::{PackedRuns, RunPlace};
 use pd_restore::{Thrice, counted_of_shape};
-use pd_runs::{PackedRuns, RunPlace};
 use pd_salvage::{PackedPiece, SavedLeaf, SavedPiece, SavedShape, ShapedDevice};
 use pd_value::Details;
 use std::alloc::{AllocError, Global};
@@ -139,7 +139,8 @@ fn later_of_piece(
     latest: u32,
 ) -> u32
     requires { AllByRecursion (IsRunIn counted.now.size) (runs_from runs.now place.old) }
-    ensures snap { (leaves : List (List Mapping)) → leaf_snaps.now ≡ snaps_of (is_twice counted.now) leaves → result ≡ snap_after (is_twice counted.now) latest
+    ensures snap { (leaves : List (List Mapping)) → leaf_snaps.now ≡ snaps_of (is_twice counted.now) leaves
+        → result ≡ snap_after (is_twice counted.now) latest
         (piece_mappings leaves (piece_of_part (piece_part piece.now (take (runs_of_piece piece.now) (runs_from runs.now place.old))))) }
     ensures behind { runs_from runs.now place.new ≡ drop (runs_of_piece piece.now) (runs_from runs.now place.old) }
 {

@@ -1,20 +1,19 @@
 -- What is held in memory of a pool, as its lines are restored.
 use Rattle.std.proofs.Common.{◌≡◌, ℕ, ◌≤◌, Bool, List, [], ◌∷◌, ◌++◌, Option, Result, Ok, Err, refl, sym, ◌∙◌, ap, subst, arith}
 use Rattle.std.specs.Prelude.{IfErr, OnOk, MatchResult}
-use Rattle.pd_draft.specs.Placed.{DraftState}
 use Rattle.pd_grammar.specs.Texts.{Reading, whole, written}
-use Rattle.pd_grammar.proofs.LineLemmas.{AreRead}
-use Rattle.pd_spells.specs.ThinText.{Line, pool_line, end_line, pool_format}
-use Rattle.pd_shapes.specs.PoolText.{pool_need_so_far}
+use Rattle.pd_grammar.proofs.GrammarLemmas.{AreRead}
+use Rattle.pd_grammar.specs.ThinText.{Line, pool_line, end_line, pool_format}
+use Rattle.pd_laid.specs.PoolText.{pool_need_so_far}
+use Rattle.pd_draft.specs.Closed.{DraftState}
 use Rattle.pd_texts.specs.Reader.{in_order, IsReadAfter}
 use Rattle.pd_restoring.specs.declared.fault.RestoreFault.{RestoreFault}
 use Rattle.pd_restoring.specs.Reading.{SaysOf}
 use Rattle.pd_restoring.proofs.ReadingLemmas.{above_next}
-use Rattle.pd_salvage.specs.declared.saved.SavedHead.{SavedHead}
-use Rattle.pd_restore.specs.Coming.{Coming, HasMade, IsTextOf, TakesLines, lines_to_end, made_begun, version_line}
+use Rattle.pd_restore.specs.Whole.{Coming, HasMade, IsTextOf, TakesLines, lines_to_end, made_begun, version_line, head_of_pool}
 use Rattle.pd_restore.specs.Reading.{EndsAll, Follows, Gathers, HasRoom, IsOver}
-use Rattle.pd_restore.specs.Whole.{head_of_pool}
 use Rattle.pd_restore.proofs.ReadingLemmas.{lacking}
+use Rattle.pd_salvage.specs.declared.saved.SavedHead.{SavedHead}
 
 -- the first of some lines that may follow others
 first_read : (before : List Line) (line : Line) (lines : List Line) → AreRead pool_format before (line ∷ lines) → IsReadAfter pool_format before line

@@ -5,28 +5,27 @@ use Rattle.std.specs.List.{count_by, flat_map}
 use Rattle.std.proofs.lemmas.List.{append-nil, map-append}
 use Rattle.std.proofs.lemmas.List.Sums.{sum_by-append}
 use Rattle.pd_kinds.specs.Meaning.{ThinPool, ThinDevice, Mapping}
-use Rattle.pd_draft.specs.Placed.{DraftState, Wrote}
-use Rattle.pd_count.specs.Counted.{Counted, HasCounted}
-use Rattle.pd_spells.specs.Lawful.{IsLawfulPool}
-use Rattle.pd_spells.specs.Need.{need_tree}
-use Rattle.pd_spells.specs.ThinNeed.{mapped_data, overflows_in, thin_need, thin_need_so_far}
-use Rattle.pd_spells.proofs.NeedLemmas.{devices-same, overflows-same}
-use Rattle.pd_spells.specs.ThinText.{Line, first_line, pool_line, device_line, map_line, end_line, Run, Part, mappings_of, device_of_part, head_of, lines_of_part, data_blocks_of, piece_end, unmapped, MeansPool}
-use Rattle.pd_laid.specs.Tree.{blocks_from}
+use Rattle.pd_grammar.specs.Lawful.{IsLawfulPool}
+use Rattle.pd_grammar.specs.Need.{need_tree, mapped_data, overflows_in, thin_need, thin_need_so_far}
+use Rattle.pd_grammar.proofs.NeedLemmas.{devices-same, overflows-same}
+use Rattle.pd_grammar.specs.ThinText.{Line, first_line, pool_line, device_line, map_line, end_line, Run, Part, mappings_of, device_of_part, head_of, lines_of_part, data_blocks_of, piece_end, unmapped, MeansPool}
+use Rattle.pd_grammar.proofs.ThinLaws.{pushed}
+use Rattle.pd_laid.specs.Laid.{blocks_from}
 use Rattle.pd_laid.specs.Shape.{shape_of, unshared_device, unshared_pieces, uses_of, uses_of_piece}
-use Rattle.pd_laid.proofs.ShapeLemmas.{is_shape, pool_kept}
-use Rattle.pd_laid_shared.proofs.PoolCase.{data_counts_are, trees_are, roots_are, details_are}
-use Rattle.pd_laid_shared.specs.Named.{used_times}
-use Rattle.pd_laid_shared.specs.Written.{leaves_and_trees}
+use Rattle.pd_laid.proofs.ShapeText.{is_shape, pool_kept}
+use Rattle.pd_laid.proofs.ToldLeaves.{pushed-append}
+use Rattle.pd_draft.specs.Closed.{DraftState, Wrote}
+use Rattle.pd_count.specs.Counted.{Counted, HasCounted}
 use Rattle.pd_texts.specs.Reader.{in_order}
 use Rattle.pd_devices.specs.declared.devices.Devices.{Devices}
 use Rattle.pd_devices.specs.Devices.{bare_device, with_run, open_device, whole_devices}
 use Rattle.pd_devices.specs.Gathered.{HasGathered, IsOpen, data_in, mapped_in}
 use Rattle.pd_devices.specs.declared.devices.Growing.{Growing}
-use Rattle.pd_laid_once.specs.Written.{device_details}
-use Rattle.pd_restore.specs.Written.{HasDevices, Known}
-use Rattle.pd_shapes.proofs.ToldLeaves.{pushed, pushed-append}
-use Rattle.pd_shared_devices.proofs.WholeLemmas.{pushed_again}
+use Rattle.pd_devices.proofs.WholeLemmas.{pushed_again}
+use Rattle.pd_restore.specs.Reading.{HasDevices, Known}
+use Rattle.pd_laws_laid.proofs.PoolCase.{data_counts_are, trees_are, roots_are, details_are}
+use Rattle.pd_laws_laid.specs.Shared.{used_times, leaves_and_trees}
+use Rattle.pd_laws_laid.specs.Once.{device_details}
 
 -- the runs of a device
 abbrev longer : ThinDevice → List Mapping → ThinDevice

@@ -1,38 +1,27 @@
 -- The data blocks of a saved shape's devices, and what its pool needs where each device has leaves of its own.
 use Rattle.std.proofs.Common.{◌≡◌, ℕ, zero, suc, ◌+◌, ◌-◌, ◌*◌, ◌^◌, ◌<◌, ◌≤◌, get_or, min, List, [], ◌∷◌, ◌++◌, length, map, take, drop, refl, ap, ap₂, sym, ◌∙◌, arith}
-use Rattle.std.specs.List.{AllByRecursion, flat_map, range_with_len}
+use Rattle.std.specs.List.{flat_map, range_with_len}
 use Rattle.std.specs.Prelude.{sum_by}
 use Rattle.std.proofs.lemmas.List.{drop_all, drop_more, map-append}
 use Rattle.std.proofs.lemmas.List.Sums.{sum_by-append, sum_by-cons}
 use Rattle.pd_kinds.specs.Meaning.{Mapping, ThinDevice}
-use Rattle.pd_count.specs.Counted.{Counted, count_of}
+use Rattle.pd_grammar.specs.Need.{mapped_data, need_of_devices, overflows_in, thin_need}
+use Rattle.pd_grammar.proofs.NeedLemmas.{count_of as often}
+use Rattle.pd_grammar.proofs.ThinLaws.{data_of}
 use Rattle.pd_laid.specs.Shape.{Piece, ShapeDevice, device_of, leaf_mappings, own, piece_mappings, pool_of, shared, uses_of, uses_of_piece}
-use Rattle.pd_spells.specs.ThinNeed.{mapped_data, need_of_devices, overflows_in, thin_need}
-use Rattle.pd_shapes.specs.SharedNeed.{own_mappings}
-use Rattle.pd_shapes.specs.SharedText.{device_of_part, mappings_of_runs}
-use Rattle.pd_thin_meaning.specs.declared.joined.Run.{Run}
-use Rattle.pd_thin_meaning.specs.Joined.{spelled}
+use Rattle.pd_laid.specs.PoolText.{own_mappings, device_of_part, mappings_of_runs}
+use Rattle.pd_laid.proofs.WholeNeed.{own_of}
+use Rattle.pd_count.specs.Counted.{Counted, count_of}
+use Rattle.pd_meaning_thin.specs.declared.joined.Run.{Run}
+use Rattle.pd_meaning_thin.specs.Runs.{spelled}
+use Rattle.pd_restore.specs.ShapeNeed.{HasCountedThrice, copies, data_of_runs, leaves_used, runs_used, uses_of_saved}
+use Rattle.pd_restore.proofs.PlainNeedLemmas.{copies_often, often_append, sum_alike, uses_weighted, weighted, weighted_alike}
+use Rattle.pd_restore.proofs.SavedNeedLemmas.{CountsFirst, counts_next, part_data}
+use Rattle.pd_restore.proofs.ShapePartLemmas.{devices_data, devices_uses}
 use Rattle.pd_salvage.specs.declared.saved_shape.SavedLeaf.{SavedLeaf}
 use Rattle.pd_salvage.specs.declared.saved_shape.SavedPiece.{SavedPiece}
 use Rattle.pd_salvage.specs.declared.saved_shape.ShapedDevice.{ShapedDevice}
 use Rattle.pd_salvage.specs.SavedShape.{HeldShape, IsSavedShape, device_parts, held_shape, leaf_parts, runs_of_pieces}
-use Rattle.pd_restore.specs.Overflowing.{HasCountedThrice, copies, data_of_runs}
-use Rattle.pd_restore.specs.PlainNeed.{leaves_used, runs_used}
-use Rattle.pd_restore.specs.ShapeNeed.{uses_of_saved}
-use Rattle.pd_restore.proofs.PlainNeedLemmas.{copies_often, often, often_append, sum_alike, uses_weighted, weighted, weighted_alike}
-use Rattle.pd_restore.proofs.SavedNeedLemmas.{CountsFirst, counts_next, part_data}
-use Rattle.pd_restore.proofs.ShapePartLemmas.{data_of, devices_data, devices_uses}
-
--- what holds of all elements holds of those in front and of the others
-pub all_front : {A : Type 0} (P : A → Type 0) (n : ℕ) (xs : List A) → AllByRecursion P xs → AllByRecursion P (take n xs)
-all_front P zero xs all = tt
-all_front P (suc n) [] all = tt
-all_front P (suc n) (x ∷ xs) all = (all.0, all_front P n xs all.1)
-
-pub all_rest : {A : Type 0} (P : A → Type 0) (n : ℕ) (xs : List A) → AllByRecursion P xs → AllByRecursion P (drop n xs)
-all_rest P zero xs all = all
-all_rest P (suc n) [] all = tt
-all_rest P (suc n) (x ∷ xs) all = all_rest P n xs all.1
 
 -- what stands past the last leaf
 abbrev pub no_leaf : SavedLeaf
@@ -117,21 +106,18 @@ pieces_often b leaves (shared n ∷ ps) =
       pieces_often b leaves ps,
     )
 
-abbrev all_own : List ShapeDevice → List Mapping
-all_own ds = flat_map (λ (d : ShapeDevice). flat_map own_mappings d.pieces) ds
-
 abbrev all_data : List (List Mapping) → List ShapeDevice → List ℕ
 all_data leaves ds = flat_map (λ (d : ThinDevice). data_of d.mappings) (map (device_of leaves) ds)
 
 devices_often : (b : ℕ) (leaves : List (List Mapping)) (ds : List ShapeDevice)
-    → often b (all_data leaves ds) ≡ often b (data_of (all_own ds)) + sum_by (use_often b leaves) (flat_map uses_of ds)
+    → often b (all_data leaves ds) ≡ often b (data_of (own_of ds)) + sum_by (use_often b leaves) (flat_map uses_of ds)
 devices_often b leaves [] = refl
 devices_often b leaves (d ∷ ds) =
     omega (
       arith,
       often_append b (data_of (flat_map (piece_mappings leaves) d.pieces)) (all_data leaves ds),
       pieces_often b leaves d.pieces,
-      both_often b (flat_map own_mappings d.pieces) (all_own ds),
+      both_often b (flat_map own_mappings d.pieces) (own_of ds),
       sum_by-append (use_often b leaves) (flat_map uses_of_piece d.pieces) (flat_map uses_of ds),
       devices_often b leaves ds,
     )
@@ -148,7 +134,7 @@ counts_pool h sound counts uses used counted b =
     let mine = often b (data_of_runs h.runs) in
     let front : often b (leaves_used (count_of uses) 0 h.leaves h.leaf_runs ++ data_of_runs h.runs) ≡ weighted (count_of uses) 0 cs + mine =
     often_append b (leaves_used (count_of uses) 0 h.leaves h.leaf_runs) (data_of_runs h.runs) ∙ ap (λ n. n + mine) (leaves_often b (count_of uses) 0 h.leaves h.leaf_runs) in
-    let own_is : often b (data_of (all_own ds)) ≡ mine = ap (often b) (devices_data h.devices h.pieces h.runs sound.piece_number sound.number) in
+    let own_is : often b (data_of (own_of ds)) ≡ mine = ap (often b) (devices_data h.devices h.pieces h.runs sound.piece_number sound.number) in
     let uses_are : sum_by (use_often b leaves) (flat_map uses_of ds) ≡ weighted (λ k. often k all_uses) 0 cs =
     ap (sum_by (use_often b leaves)) (devices_uses h.devices h.pieces h.runs sound.piece_number) ∙ uses_weighted (use_often b leaves) cs (leaf_often_at b leaves) all_uses in
     let whole : weighted (λ k. often k all_uses) 0 cs + mine ≡ often b (all_data leaves ds) = omega (arith, devices_often b leaves ds, own_is, uses_are) in

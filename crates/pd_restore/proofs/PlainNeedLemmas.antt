@@ -1,17 +1,13 @@
 -- The data blocks of shared leaves, counted once for each use but up to three times.
 use Rattle.std.proofs.Common.{◌≡◌, ℕ, zero, suc, ◌+◌, ◌*◌, ◌<◌, Bool, true, false, cond, eqb, get_or, min, List, [], ◌∷◌, ◌++◌, refl, ap, sym, ◌∙◌, arith, add-one, append_assoc, zero-add}
-use Rattle.std.specs.List.{count_by}
 use Rattle.std.specs.Prelude.{sum_by}
 use Rattle.std.proofs.lemmas.Bool.Decides.{nat_tests}
 use Rattle.std.proofs.lemmas.List.{append-nil}
 use Rattle.std.proofs.lemmas.List.Sums.{sum_by-append, sum_by-cons}
-use Rattle.pd_restore.specs.Overflowing.{copies}
+use Rattle.pd_grammar.proofs.NeedLemmas.{count_of}
+use Rattle.pd_restore.specs.ShapeNeed.{copies}
 
--- how often a block stands in a list
-abbrev pub often : ℕ → List ℕ → ℕ
-often b blocks = count_by (λ r. eqb r b) blocks
-
-pub often_append : (b : ℕ) (xs ys : List ℕ) → often b (xs ++ ys) ≡ often b xs + often b ys
+pub often_append : (b : ℕ) (xs ys : List ℕ) → count_of b (xs ++ ys) ≡ count_of b xs + count_of b ys
 often_append b xs ys = sum_by-append (λ r. cond (eqb r b) 1 0) xs ys
 
 -- no copy, and a copy more
@@ -23,7 +19,7 @@ pub copies_more : (before blocks : List ℕ) (n : ℕ) → (before ++ copies n b
 unfolding copies
 copies_more before blocks n = rw add-one (append_assoc before (copies n blocks) blocks)
 
-pub copies_often : (b n : ℕ) (blocks : List ℕ) → often b (copies n blocks) ≡ n * often b blocks
+pub copies_often : (b n : ℕ) (blocks : List ℕ) → count_of b (copies n blocks) ≡ n * count_of b blocks
 unfolding copies
 copies_often b zero blocks = omega arith
 copies_often b (suc n) blocks = omega (arith, often_append b (copies n blocks) blocks, copies_often b n blocks)
@@ -66,12 +62,12 @@ weighted_at i (suc k) (c ∷ cs) =
     omega (arith, none, later)
 
 -- what the places in a list name, added up
-pub uses_weighted : (f : ℕ → ℕ) (cs : List ℕ) → ((n : ℕ) → f n ≡ get_or cs n 0) → (uses : List ℕ) → sum_by f uses ≡ weighted (λ k. often k uses) 0 cs
+pub uses_weighted : (f : ℕ → ℕ) (cs : List ℕ) → ((n : ℕ) → f n ≡ get_or cs n 0) → (uses : List ℕ) → sum_by f uses ≡ weighted (λ k. count_of k uses) 0 cs
 uses_weighted f cs is [] = sym (weighted_none 0 cs)
 uses_weighted f cs is (n ∷ uses) =
     let alone : weighted (λ k. cond (eqb n k) 1 0) 0 cs ≡ get_or cs n 0 =
     ap (λ (m : ℕ). weighted (λ k. cond (eqb m k) 1 0) 0 cs) (sym (zero-add n)) ∙ weighted_at 0 n cs in
-    let both = weighted_more (λ k. cond (eqb n k) 1 0) (λ k. often k uses) (λ k. often k (n ∷ uses)) (λ k. sum_by-cons (λ r. cond (eqb r k) 1 0) n uses) 0 cs in
+    let both = weighted_more (λ k. cond (eqb n k) 1 0) (λ k. count_of k uses) (λ k. count_of k (n ∷ uses)) (λ k. sum_by-cons (λ r. cond (eqb r k) 1 0) n uses) 0 cs in
     omega (arith, sum_by-cons f n uses, is n, alone, both, uses_weighted f cs is uses)
 
 -- up to three, three times are as good as more

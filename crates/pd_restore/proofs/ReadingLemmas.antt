@@ -1,26 +1,26 @@
 -- A text that is read and restored, line by line.
 use Rattle.std.proofs.Common.{◌≡◌, ℕ, ◌-◌, ◌<◌, ◌≤◌, ◌^◌, Bool, true, false, List, [], ◌∷◌, length, refl, sym, ◌∙◌, ap, arith, Option, Some, Result, Ok, Err, subst, if◌then◌else◌}
 use Rattle.std.specs.Prelude.{IsErrAnd, MatchResult, IfOk, IfErr, OnOk}
-use Rattle.pd_draft.specs.Placed.{DraftState}
 use Rattle.pd_grammar.specs.Spelling.{need_above_room}
 use Rattle.pd_grammar.specs.Texts.{reading}
+use Rattle.pd_grammar.specs.ThinText.{Line, pool_line, end_line, pool_format, first_line, shared_first_line}
+use Rattle.pd_laid.specs.PoolText.{pool_need_so_far}
+use Rattle.pd_draft.specs.Closed.{DraftState}
 use Rattle.pd_lines.specs.Reader.{lines_of}
-use Rattle.pd_shapes.specs.PoolText.{pool_need_so_far}
-use Rattle.pd_spells.specs.ThinText.{Line, pool_line, end_line, pool_format, first_line, shared_first_line}
-use Rattle.pd_texts.specs.declared.fault.ReadFault.{ReadFault}
+use Rattle.pd_texts.specs.declared.reader.ReadFault.{ReadFault}
 use Rattle.pd_texts.specs.declared.reader.TextReader.{TextReader}
-use Rattle.pd_texts.specs.declared.thin_line.ThinLine.{ThinLine}
+use Rattle.pd_texts.specs.declared.thin_text.ThinLine.{ThinLine}
 use Rattle.pd_texts.specs.declared.thin_state.ThinState.{ThinState}
 use Rattle.pd_texts.specs.Reader.{in_order, AreReadSoFar, ReadsOn, LeavesOf, IsWhole, RefusesNext}
 use Rattle.pd_texts.specs.ThinLine.{line_of}
 use Rattle.pd_texts.specs.ThinState.{ThinStands, first_of}
-use Rattle.pd_restoring.specs.declared.fault.RestoreFault.{RestoreFault}
-use Rattle.pd_restoring.specs.declared.fault.RestoreFault.TheVariants as r
-use Rattle.pd_restoring.specs.Reading.{IsOfBuild, NoneAbove, SaysOf}
-use Rattle.pd_restoring.specs.Faults.{build_fault, read_fault}
 use Rattle.pd_build.specs.declared.fault.BuildFault.{BuildFault}
 use Rattle.pd_build.specs.declared.fault.BuildFault.TheVariants as b
+use Rattle.pd_restoring.specs.declared.fault.RestoreFault.{RestoreFault}
+use Rattle.pd_restoring.specs.Reading.{IsOfBuild, NoneAbove, SaysOf}
+use Rattle.pd_restoring.specs.Restored.{build_fault, read_fault}
 use Rattle.pd_restoring.proofs.ReadingLemmas.{above_next, above_here, next_says}
+use Rattle.pd_restoring.specs.declared.fault.RestoreFault.TheVariants as r
 use Rattle.pd_restore.specs.Reading.{Gathers, Reading, Steps, IsShort, IsOver}
 use Rattle.pd_restore.specs.Whole.{HasBegun, begun_lines, head_of_pool}
 use Rattle.pd_salvage.specs.declared.saved.SavedHead.{SavedHead}

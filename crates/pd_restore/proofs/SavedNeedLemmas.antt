@@ -1,24 +1,56 @@
 -- What a saved pool needs, by its devices and runs.
-use Rattle.std.proofs.Common.{◌≡◌, ℕ, zero, suc, ◌+◌, ◌-◌, ◌^◌, ◌<◌, ◌≤◌, min, List, [], ◌∷◌, ◌++◌, length, map, take, drop, refl, append_assoc, ap, sym, subst, ◌∙◌, arith, length-drop}
-use Rattle.std.specs.List.{AllByRecursion, flat_map, range_with_len}
-use Rattle.std.proofs.lemmas.Grind.{flat_map-append}
-use Rattle.std.proofs.lemmas.List.{append-nil, map-append, nil_from_length, take-append-drop}
+use Rattle.std.proofs.Common.{◌≡◌, ℕ, ◌+◌, Bool, cond, leb, eqb, min, List, [], ◌∷◌, ◌++◌, refl, sym, ◌∙◌, ap, append_assoc, arith, zero, suc, ◌-◌, ◌^◌, ◌<◌, ◌≤◌, length, map, take, drop, subst, length-drop}
+use Rattle.std.specs.List.{count_by, range_with_len, AllByRecursion, flat_map}
+use Rattle.std.proofs.lemmas.Bool.Decides.{nat_tests}
+use Rattle.std.proofs.lemmas.List.FromFn.{map-range_with_len_more}
+use Rattle.std.proofs.lemmas.List.{map-id, append-nil, map-append, nil_from_length, take-append-drop}
 use Rattle.std.proofs.lemmas.List.Sums.{sum_by-cons}
+use Rattle.std.proofs.lemmas.Grind.{flat_map-append}
 use Rattle.pd_kinds.specs.Meaning.{Mapping, ThinDevice}
-use Rattle.pd_thin_meaning.specs.declared.joined.Run.{Run as SavedRun}
-use Rattle.pd_thin_meaning.specs.Joined.{spelled}
-use Rattle.pd_count.specs.Counted.{Counted}
+use Rattle.pd_grammar.specs.Need.{overflows_in, mapped_data, need_of_devices, thin_need}
+use Rattle.pd_grammar.proofs.NeedLemmas.{count_of as times}
+use Rattle.pd_grammar.specs.Lawful.{AreMappings, AreDevices}
+use Rattle.pd_grammar.specs.ThinText.{HasMappings, Run, device_of_part, mappings_from, mappings_of}
+use Rattle.pd_count.specs.Counted.{Counted, count_of}
+use Rattle.pd_meaning_thin.specs.declared.joined.Run.{Run as SavedRun}
+use Rattle.pd_meaning_thin.specs.Runs.{spelled}
 use Rattle.pd_devices.specs.Counts.{overflows_of}
-use Rattle.pd_devices.proofs.RunLemmas.{run_data}
-use Rattle.pd_spells.specs.Lawful.{AreMappings, AreDevices}
-use Rattle.pd_spells.specs.ThinNeed.{mapped_data, need_of_devices, overflows_in, thin_need}
-use Rattle.pd_spells.specs.ThinText.{HasMappings, Run, device_of_part, mappings_from, mappings_of}
+use Rattle.pd_devices.proofs.GrowthLemmas.{run_data}
+use Rattle.pd_restore.specs.ShapeNeed.{HasCountedThrice, IsRunIn, data_of_runs}
+use Rattle.pd_restore.proofs.SavedTextLemmas.{have_mappings}
 use Rattle.pd_salvage.specs.declared.saved.SavedDevice.{SavedDevice}
 use Rattle.pd_salvage.specs.declared.saved.SavedHead.{SavedHead}
 use Rattle.pd_salvage.specs.Saved.{IsSavedPool, SavedPool, parts_of, pool_of, runs_of_devices}
-use Rattle.pd_restore.specs.Overflowing.{HasCountedThrice, IsRunIn, data_of_runs}
-use Rattle.pd_restore.proofs.SavedTextLemmas.{have_mappings}
-use Rattle.pd_restore.proofs.OverflowingLemmas.{over_listed}
+
+-- Counting up to three.
+
+-- a row with one block more
+pub row_more : (first n : ℕ) (before : List ℕ) → (before ++ range_with_len first n) ++ (first + n) ∷ [] ≡ before ++ range_with_len first (n + 1)
+row_more first n before =
+    append_assoc before (range_with_len first n) ((first + n) ∷ []) ∙ ap (λ (row : List ℕ). before ++ row) (sym (more first n))
+  where
+    more : (first n : ℕ) → range_with_len first (n + 1) ≡ range_with_len first n ++ (first + n) ∷ []
+    more first n =
+        sym (map-id (range_with_len first (n + 1))) ∙ (map-range_with_len_more (λ r. r) first n (first + n) refl
+        ∙ ap (λ (row : List ℕ). row ++ (first + n) ∷ []) (map-id (range_with_len first n)))
+
+-- tests that say the same
+same_tests : (p q : ℕ → Bool) (xs : List ℕ) → ((d : ℕ) → p d ≡ q d) → count_by p xs ≡ count_by q xs
+same_tests p q [] same = refl
+same_tests p q (x ∷ xs) same =
+    sum_by-cons (λ (d : ℕ). cond (p d) 1 0) x xs
+    ∙ (ap (λ (t : Bool). cond t 1 0 + count_by p xs) (same x) ∙ ap (λ (k : ℕ). cond (q x) 1 0 + k) (same_tests p q xs same))
+    ∙ sym (sum_by-cons (λ (d : ℕ). cond (q d) 1 0) x xs)
+
+at_three : (n m : ℕ) → n ≡ min m 3 → leb 3 n ≡ leb 3 m
+at_three n m is = grind (arith, nat_tests)
+
+-- counted up to three, those of three are the same
+pub over_listed : (counts : Counted) (blocks : List ℕ) (n : ℕ) → HasCountedThrice counts blocks → overflows_of counts n ≡ overflows_in blocks n
+unfolding overflows_of overflows_in
+over_listed counts blocks n counted =
+    same_tests (λ d. leb 3 (count_of counts d)) (λ d. leb 3 (count_by (λ b. eqb b d) blocks)) (range_with_len 0 n)
+    (λ d. at_three (count_of counts d) (times d blocks) (counted d))
 
 -- a run's data blocks are in the pool
 run_within : (blocks least v d t n : ℕ) (rest : List Mapping) → AreMappings blocks least (mappings_from v d t n ++ rest) → 1 ≤ n → d + n ≤ blocks
@@ -27,7 +59,7 @@ run_within blocks least v d t (suc zero) rest are some = let first = are.0 in om
 run_within blocks least v d t (suc (suc n)) rest are some =
     let later = run_within blocks (v + 1) (suc v) (suc d) t (suc n) rest are.1 (omega arith) in omega arith
 
-after_run : (blocks least v d t n : ℕ) (rest : List Mapping) → AreMappings blocks least (mappings_from v d t n ++ rest) → (next : ℕ) × AreMappings blocks next rest
+pub after_run : (blocks least v d t n : ℕ) (rest : List Mapping) → AreMappings blocks least (mappings_from v d t n ++ rest) → (next : ℕ) × AreMappings blocks next rest
 after_run blocks least v d t zero rest are = (least, are)
 after_run blocks least v d t (suc n) rest are = after_run blocks (v + 1) (suc v) (suc d) t n rest are.1
 

@@ -1,44 +1,28 @@
 -- The text of a saved pool: what it spells, and its lines from a place on.
-use Rattle.std.proofs.Common.{◌≡◌, Bool, inl, inr, ℕ, suc, ◌+◌, ◌<◌, ◌≤◌, true, false, ltb, List, [], ◌∷◌, ◌++◌, length, take, drop, drop-cons, add-one, get_or, refl, ap, ap₂, sym, subst, ◌∙◌, arith, lit≤}
+use Rattle.std.proofs.Common.{◌≡◌, Bool, ℕ, suc, ◌+◌, ◌<◌, ◌≤◌, true, false, ltb, List, [], ◌∷◌, ◌++◌, length, take, drop, drop-cons, add-one, get_or, refl, ap, ap₂, sym, subst, ◌∙◌}
 use Rattle.std.specs.List.{AllByRecursion, flat_map}
-use Rattle.std.proofs.lemmas.Bool.{cases_Bool, ltb-true, ltb-false}
+use Rattle.std.proofs.lemmas.Bool.{ltb-true, ltb-false}
 use Rattle.std.proofs.lemmas.List.{drop_all}
-use Rattle.pd_kinds.specs.Meaning.{Mapping}
 use Rattle.pd_grammar.specs.Texts.{reading, whole}
-use Rattle.pd_grammar.proofs.GrammarLemmas.{read_if_lines}
-use Rattle.pd_grammar.proofs.LineLemmas.{AreRead}
+use Rattle.pd_grammar.proofs.GrammarLemmas.{read_if_lines, AreRead}
 use Rattle.pd_grammar.proofs.SpellingLemmas.{reading_if_spelled}
-use Rattle.pd_thin_meaning.specs.declared.joined.Run.{Run as SavedRun}
-use Rattle.pd_thin_meaning.specs.Joined.{spelled}
-use Rattle.pd_texts.specs.Reader.{in_order}
-use Rattle.pd_spells.specs.ThinText.{Line, first_line, pool_line, device_line, map_line, end_line, Part, Run, HasMappings, follows, joined_runs, lines_of_part, mappings_of, pool_format, with_mapping}
-use Rattle.pd_spells.proofs.ThinRead.{FitsLine, PlacedInPool}
+use Rattle.pd_grammar.specs.ThinText.{Line, first_line, pool_line, device_line, map_line, end_line, Part, Run, HasMappings, lines_of_part, mappings_of, pool_format}
+use Rattle.pd_grammar.proofs.ThinRead.{FitsLine, PlacedInPool}
+use Rattle.pd_grammar.specs.Lawful.{IsLawfulPool}
+use Rattle.pd_grammar.proofs.ThinLaws.{joined_some}
 use Rattle.pd_laid.specs.Shape.{shape_of}
-use Rattle.pd_laid.proofs.ShapeLemmas.{is_shape, pool_kept}
-use Rattle.pd_shapes.specs.PoolText.{IsLawfulShape, MeansAs, MeansPoolShape, SpellsPoolShape}
-use Rattle.pd_spells.specs.Lawful.{IsLawfulPool}
-use Rattle.pd_shapes.proofs.PoolLaws.{pool_language}
-use Rattle.pd_shapes.proofs.ShapeText.{parts_unshared}
+use Rattle.pd_laid.proofs.ShapeText.{is_shape, pool_kept, pool_language, parts_unshared}
+use Rattle.pd_laid.specs.PoolText.{IsLawfulShape, MeansAs, MeansPoolShape, SpellsPoolShape}
+use Rattle.pd_texts.specs.Reader.{in_order}
+use Rattle.pd_texts.specs.ThinLine.{details_of}
+use Rattle.pd_meaning_thin.specs.declared.joined.Run.{Run as SavedRun}
+use Rattle.pd_meaning_thin.specs.Runs.{spelled}
+use Rattle.pd_restore.specs.declared.saved_lines.SavedLines.{SavedLines}
+use Rattle.pd_restore.specs.Whole.{lines_to_end, made_begun, head_of_pool}
+use Rattle.pd_restore.specs.SavedLines.{lines_at, lines_left, saved_lines, saved_text}
 use Rattle.pd_salvage.specs.declared.saved.SavedDevice.{SavedDevice}
 use Rattle.pd_salvage.specs.Saved.{IsJoined, IsSavedPool, SavedPool, parts_of, pool_of}
-use Rattle.pd_texts.specs.ThinLine.{details_of}
 use Rattle.pd_salvage.specs.declared.saved.SavedHead.{SavedHead}
-use Rattle.pd_restore.specs.declared.saved_lines.SavedLines.{SavedLines}
-use Rattle.pd_restore.specs.Coming.{lines_to_end, made_begun}
-use Rattle.pd_restore.specs.SavedLines.{lines_at, lines_left, saved_lines, saved_text}
-use Rattle.pd_restore.specs.Whole.{head_of_pool}
-
--- each run of the joined ones has a mapping
-with_mapping_some : (m : Mapping) (rs : List Run) → AllByRecursion (λ (r : Run). 1 ≤ r.length) rs → AllByRecursion (λ (r : Run). 1 ≤ r.length) (with_mapping m rs)
-with_mapping_some m [] all = (lit≤ tt, tt)
-with_mapping_some m (r ∷ rs) all = elim (cases_Bool (follows m r)) [
-  | inl e ↦ rw e (omega arith, all.1)
-  | inr e ↦ rw e (lit≤ tt, all)
-]
-
-pub joined_some : (ms : List Mapping) → AllByRecursion (λ (r : Run). 1 ≤ r.length) (joined_runs ms)
-joined_some [] = tt
-joined_some (m ∷ ms) = with_mapping_some m (joined_runs ms) (joined_some ms)
 
 pub have_mappings : (parts : List Part) → AllByRecursion IsJoined parts → AllByRecursion HasMappings parts
 have_mappings [] joined = tt

@@ -2,21 +2,21 @@
 use Rattle.std.proofs.Common.{◌≡◌, ℕ, zero, suc, ◌+◌, ◌-◌, ◌<◌, List, [], ◌∷◌, ◌++◌, length, take, drop, append_assoc, refl, ap, sym, ◌∙◌, arith}
 use Rattle.std.proofs.lemmas.List.{drop-drop, take_all}
 use Rattle.std.proofs.lemmas.List.Sums.{sum_by-cons}
-use Rattle.pd_thin_meaning.specs.declared.joined.Run.{Run}
-use Rattle.pd_thin_meaning.specs.Joined.{spelled}
-use Rattle.pd_spells.specs.ThinText.{device_line, leaf_line, map_line, use_line}
+use Rattle.pd_grammar.specs.ThinText.{device_line, leaf_line, map_line, use_line}
 use Rattle.pd_texts.specs.ThinLine.{details_of}
+use Rattle.pd_meaning_thin.specs.declared.joined.Run.{Run}
+use Rattle.pd_meaning_thin.specs.Runs.{spelled}
+use Rattle.pd_meaning_thin.specs.Packed.{runs_from}
+use Rattle.pd_restore.specs.declared.shape_lines.LeafLines.{LeafLines}
+use Rattle.pd_restore.specs.declared.saved_lines.RunSpan.{RunSpan}
+use Rattle.pd_restore.specs.declared.saved_lines.Span.{Span}
+use Rattle.pd_restore.specs.ShapeLines.{device_lines, leaf_lines, lines_of_rest, told_devices, told_leaves, told_pieces, told_runs}
+use Rattle.pd_restore.specs.SavedLines.{behind, behind_runs, in_runs, in_span}
 use Rattle.pd_salvage.specs.declared.saved_shape.SavedLeaf.{SavedLeaf}
 use Rattle.pd_salvage.specs.declared.saved_shape.SavedPiece.{SavedPiece}
 use Rattle.pd_salvage.specs.declared.saved_shape.SavedPiece.TheVariants.{Own, Shared}
 use Rattle.pd_salvage.specs.declared.saved_shape.ShapedDevice.{ShapedDevice}
 use Rattle.pd_salvage.specs.SavedShape.{HeldShape, runs_of_piece, runs_of_pieces}
-use Rattle.pd_runs.specs.Places.{runs_from}
-use Rattle.pd_restore.specs.declared.shape_lines.LeafLines.{LeafLines}
-use Rattle.pd_restore.specs.declared.span.RunSpan.{RunSpan}
-use Rattle.pd_restore.specs.declared.span.Span.{Span}
-use Rattle.pd_restore.specs.ShapeLines.{device_lines, leaf_lines, lines_of_rest, told_devices, told_leaves, told_pieces, told_runs}
-use Rattle.pd_restore.specs.Spans.{behind, behind_runs, in_runs, in_span}
 
 -- the next element of a row, and what stands behind it
 module _ {T : Type 0} where

@@ -6,22 +6,21 @@ use Rattle.std.proofs.lemmas.Bool.Decides.{nat_tests}
 use Rattle.std.proofs.lemmas.Grind.{flat_map-append}
 use Rattle.std.proofs.lemmas.List.{drop-drop, map-append, take_all, take_more}
 use Rattle.std.proofs.lemmas.List.Sums.{sum_by-append, sum_by-cons}
+use Rattle.pd_grammar.specs.Need.{need_above, nodes_for}
 use Rattle.pd_laid.specs.Shape.{ArePieces, Piece, ShapeDevice, uses_of_piece}
-use Rattle.pd_spells.specs.Need.{need_above, nodes_for}
-use Rattle.pd_shapes.specs.SharedNeed.{leaves_of_pieces, need_of_leaves, own_number}
-use Rattle.pd_shapes.specs.SharedText.{PartPiece, SharedPart, device_of_part, mappings_of_runs, own_runs, piece_of_part, used_leaf}
-use Rattle.pd_shared_devices.specs.Growth.{need_ended}
-use Rattle.pd_thin_meaning.specs.declared.joined.Run.{Run}
-use Rattle.pd_thin_meaning.specs.Joined.{spelled}
+use Rattle.pd_laid.specs.PoolText.{leaves_of_pieces, need_of_leaves, own_number, PartPiece, SharedPart, device_of_part, mappings_of_runs, own_runs, piece_of_part, used_leaf}
+use Rattle.pd_meaning_thin.specs.declared.joined.Run.{Run}
+use Rattle.pd_meaning_thin.specs.Runs.{spelled}
+use Rattle.pd_meaning_thin.specs.Packed.{runs_from}
+use Rattle.pd_devices.specs.SharedGrowth.{need_ended}
+use Rattle.pd_restore.specs.declared.shape_need.LeafCounts.{LeafCounts}
+use Rattle.pd_restore.specs.declared.shape_need.TreeCounts.{TreeCounts}
+use Rattle.pd_restore.proofs.ShapeLineLemmas.{row_none}
+use Rattle.pd_restore.specs.ShapeNeed.{AddsDevice, AddsPiece, CountsDevices, CountsPieces, own_leaves, pieces_of, tree_of_part, trees_of_parts, uses_number}
 use Rattle.pd_salvage.specs.declared.saved_shape.SavedPiece.{SavedPiece}
 use Rattle.pd_salvage.specs.declared.saved_shape.SavedPiece.TheVariants.{Own, Shared}
 use Rattle.pd_salvage.specs.declared.saved_shape.ShapedDevice.{ShapedDevice}
 use Rattle.pd_salvage.specs.SavedShape.{device_part, device_parts, piece_part, piece_parts, runs_of_piece, runs_of_pieces}
-use Rattle.pd_restore.specs.declared.shape_need.LeafCounts.{LeafCounts}
-use Rattle.pd_restore.specs.declared.shape_need.TreeCounts.{TreeCounts}
-use Rattle.pd_runs.specs.Places.{runs_from}
-use Rattle.pd_restore.proofs.ShapeLineLemmas.{row_none}
-use Rattle.pd_restore.specs.ShapeNeed.{AddsDevice, AddsPiece, CountsDevices, CountsPieces, own_leaves, pieces_of, tree_of_part, trees_of_parts, uses_number}
 
 -- a front of a list, and another one behind it
 pub take_front : {T : Type 0} (n k : ℕ) (xs : List T) → take (n + k) xs ≡ take n xs ++ take k (drop n xs)

@@ -6,30 +6,25 @@ use Rattle.std.proofs.lemmas.Grind.{flat_map-append}
 use Rattle.std.proofs.lemmas.List.{length-map, map-append, nil_from_length, take-append-drop}
 use Rattle.std.proofs.lemmas.List.Sums.{sum_by-cons, sum_by-take-drop}
 use Rattle.pd_kinds.specs.Meaning.{Mapping}
+use Rattle.pd_grammar.specs.Lawful.{AreDevices, AreMappings}
+use Rattle.pd_grammar.specs.Need.{overflows_in}
+use Rattle.pd_grammar.proofs.ThinLaws.{data_of}
 use Rattle.pd_laid.specs.Shape.{ArePieces, ShapeDevice, device_of, piece_mappings, pool_of, shared, uses_of, uses_of_piece}
-use Rattle.pd_spells.specs.Lawful.{AreDevices, AreMappings}
-use Rattle.pd_spells.specs.ThinNeed.{overflows_in}
-use Rattle.pd_shapes.specs.SharedNeed.{LeafCount, leaves_of_pieces, need_of_leaves, need_of_shared, own_mappings, shape_data, shape_need, used_often}
-use Rattle.pd_shapes.specs.SharedText.{HasPartMappings, HasPieceMappings, device_of_part, mappings_of_runs, piece_of_part}
-use Rattle.pd_shapes.proofs.LeafRuns.{IsLeaf}
-use Rattle.pd_shapes.proofs.UsedLeaves.{are_leaves}
-use Rattle.pd_shared_devices.specs.Need.{need_of_parts}
-use Rattle.pd_shared_devices.specs.declared.need.NeedCounts.{NeedCounts}
-use Rattle.pd_thin_meaning.specs.declared.joined.Run.{Run}
-use Rattle.pd_thin_meaning.specs.Joined.{spelled}
+use Rattle.pd_laid.specs.PoolText.{LeafCount, leaves_of_pieces, need_of_leaves, need_of_shared, own_mappings, shape_data, shape_need, used_often, HasPartMappings, HasPieceMappings, device_of_part, mappings_of_runs, piece_of_part}
+use Rattle.pd_laid.proofs.LeafRuns.{IsLeaf, are_leaves, mappings_in_front}
+use Rattle.pd_meaning_thin.specs.declared.joined.Run.{Run}
+use Rattle.pd_meaning_thin.specs.Runs.{spelled}
+use Rattle.pd_devices.specs.SharedGathered.{need_of_parts}
+use Rattle.pd_devices.specs.declared.growing.NeedCounts.{NeedCounts}
+use Rattle.pd_restore.specs.ShapeNeed.{IsRunIn, data_of_runs, IsUseBelow, pieces_of, trees_of_parts, uses_of_saved}
+use Rattle.pd_restore.proofs.SavedNeedLemmas.{IsWithin, all_append, part_data, part_within, within_all}
+use Rattle.pd_restore.proofs.ShapeNeedLemmas.{parts_need, take_front}
+use Rattle.pd_restore.proofs.ShapeTextLemmas.{leaves_have, parts_have}
 use Rattle.pd_salvage.specs.declared.saved_shape.SavedLeaf.{SavedLeaf}
 use Rattle.pd_salvage.specs.declared.saved_shape.SavedPiece.{SavedPiece}
 use Rattle.pd_salvage.specs.declared.saved_shape.SavedPiece.TheVariants.{Own, Shared}
 use Rattle.pd_salvage.specs.declared.saved_shape.ShapedDevice.{ShapedDevice}
 use Rattle.pd_salvage.specs.SavedShape.{HeldShape, IsSavedShape, device_parts, held_shape, leaf_parts, piece_parts, runs_of_piece, runs_of_pieces}
-use Rattle.pd_restore.specs.Overflowing.{IsRunIn, data_of_runs}
-use Rattle.pd_restore.specs.ShapeNeed.{IsUseBelow, pieces_of, trees_of_parts, uses_of_saved}
-use Rattle.pd_restore.proofs.SavedNeedLemmas.{IsWithin, all_append, part_data, part_within, within_all}
-use Rattle.pd_restore.proofs.ShapeNeedLemmas.{parts_need, take_front}
-use Rattle.pd_restore.proofs.ShapeTextLemmas.{leaves_have, parts_have}
-
-abbrev pub data_of : List Mapping → List ℕ
-data_of ms = map (λ (x : Mapping). x.data_block) ms
 
 -- the data blocks of runs, and of others behind them
 data_append : (runs others : List Run) → data_of_runs (runs ++ others) ≡ data_of_runs runs ++ data_of_runs others
@@ -42,9 +37,6 @@ data_split n runs = sym (data_append (take n runs) (drop n runs)) ∙ ap data_of
 pub leaf_rest : (leaf : SavedLeaf) (leaves : List SavedLeaf) (runs : List Run) → sum_by (λ (l : SavedLeaf). l.runs) (leaf ∷ leaves) ≡ length runs
     → sum_by (λ (l : SavedLeaf). l.runs) leaves ≡ length (drop leaf.runs runs)
 leaf_rest leaf leaves runs number = omega (arith, number, sum_by-cons (λ (l : SavedLeaf). l.runs) leaf leaves, length-drop leaf.runs runs)
-
-piece_rest : (p : SavedPiece) (ps : List SavedPiece) (runs : List Run) → runs_of_pieces (p ∷ ps) ≡ length runs → runs_of_pieces ps ≡ length (drop (runs_of_piece p) runs)
-piece_rest p ps runs number = omega (arith, number, sum_by-cons runs_of_piece p ps, length-drop (runs_of_piece p) runs)
 
 device_rest : (d : ShapedDevice) (ds : List ShapedDevice) (ps : List SavedPiece) → pieces_of (d ∷ ds) ≡ length ps → pieces_of ds ≡ length (drop d.pieces ps)
 device_rest d ds ps number = omega (arith, number, sum_by-cons (λ (d : ShapedDevice). d.pieces) d ds, length-drop d.pieces ps)
@@ -165,12 +157,7 @@ leaf_runs_in h sound =
 pub leaf_runs_within : (h : HeldShape) → IsSavedShape h → AllByRecursion (IsWithin h.head.blocks) h.leaf_runs
 leaf_runs_within h sound = within_all h.head.blocks h.leaf_runs (leaf_runs_in h sound)
 
--- lawful mappings, in front and behind
-in_front : (blocks least : ℕ) (ms ns : List Mapping) → AreMappings blocks least (ms ++ ns) → AreMappings blocks least ms
-in_front blocks least [] ns are = tt
-in_front blocks least (m ∷ ms) ns are = (are.0, in_front blocks (m.virtual_block + 1) ms ns are.1)
-
-from_there : (blocks least : ℕ) (ms ns : List Mapping) → AreMappings blocks least (ms ++ ns) → (next : ℕ) × AreMappings blocks next ns
+pub from_there : (blocks least : ℕ) (ms ns : List Mapping) → AreMappings blocks least (ms ++ ns) → (next : ℕ) × AreMappings blocks next ns
 from_there blocks least [] ns are = (least, are)
 from_there blocks least (m ∷ ms) ns are = from_there blocks (m.virtual_block + 1) ms ns are.1
 
@@ -186,7 +173,7 @@ pieces_within blocks least leaves (Own k ∷ ps) runs are have =
     let all : take k runs ++ take (runs_of_pieces ps) (drop k runs) ≡ take (runs_of_pieces (Own k ∷ ps)) runs =
     sym (take_front k (runs_of_pieces ps) runs) ∙ ap (λ (n : ℕ). take n runs) (sym (sum_by-cons runs_of_piece (Own k) ps)) in
     subst (AllByRecursion (IsRunIn blocks)) all
-    (all_append (IsRunIn blocks) (take k runs) (take (runs_of_pieces ps) (drop k runs)) (part_within blocks least (take k runs) (in_front blocks least mine others are) have.0)
+    (all_append (IsRunIn blocks) (take k runs) (take (runs_of_pieces ps) (drop k runs)) (part_within blocks least (take k runs) (mappings_in_front blocks least mine others are) have.0)
     (pieces_within blocks later.0 leaves ps (drop k runs) later.1 have.1))
 pieces_within blocks least leaves (Shared number ∷ ps) runs are have =
     let others = flat_map (piece_mappings leaves) (map piece_of_part (piece_parts ps runs)) in

@@ -7,42 +7,37 @@ use Rattle.std.proofs.lemmas.List.FromFn.{length-range_with_len, length-map-rang
 use Rattle.std.specs.List.{count_by, flat_map, range_with_len}
 use Rattle.pd_kinds.specs.Bitmap.{bitmaps_for}
 use Rattle.pd_kinds.specs.Layout.{plain_tree, tree_to}
-use Rattle.pd_kinds.specs.declared.map_root.SmRoot.{SmRoot}
+use Rattle.pd_kinds.specs.declared.superblocks.SmRoot.{SmRoot}
 use Rattle.pd_kinds.specs.Meaning.{Mapping}
 use Rattle.pd_kinds.specs.Node.{Entry, is_ascending}
-use Rattle.pd_kinds.specs.Value.{details_code}
-use Rattle.pd_value.specs.declared.thin.Root.{Root}
-use Rattle.pd_value.specs.declared.thin.Details.{Details}
-use Rattle.pd_node.specs.Items.{entries_of, keys_of}
-use Rattle.pd_build.specs.declared.fault.BuildFault.{BuildFault}
-use Rattle.pd_build.proofs.TakesLemmas.{keys-entries, length-entries}
-use Rattle.pd_draft.specs.Placed.{DraftState, Wrote}
-use Rattle.pd_draft.proofs.PlacedLemmas.{wrote_then}
-use Rattle.pd_count.specs.Counted.{count_of}
-use Rattle.pd_spells.specs.Lawful.{AreDevices}
-use Rattle.pd_spells.specs.Need.{need_tree}
-use Rattle.pd_spells.specs.ThinText.{Line}
-use Rattle.pd_laid.specs.Laid.{LaidBlock, count_in, tree_of, written_from}
+use Rattle.pd_grammar.specs.Lawful.{AreDevices}
+use Rattle.pd_grammar.specs.Need.{need_tree}
+use Rattle.pd_grammar.specs.ThinText.{Line}
+use Rattle.pd_laid.specs.Laid.{count_in, tree_of, written_from, index_entry_of, index_items, laid_bitmap, laid_bitmaps, laid_meta_map, meta_counts, meta_overflow_root, overflow_items, tree_blocks, tree_root}
 use Rattle.pd_laid.specs.LaidThin.{bitmap_blocks, bitmaps_at, data_counts, data_index, data_overflow, details_at, details_items, devices_at, index_at, index_blocks, meta_map_at, meta_map_blocks, overflow_at, overflow_blocks, pool_fields, pool_named, shared_items, tops, tops_at}
-use Rattle.pd_laid.specs.Map.{index_entry_of, index_items, laid_bitmap, laid_bitmaps, laid_meta_map, meta_counts, meta_overflow_root, overflow_items}
 use Rattle.pd_laid.specs.Shape.{ShapeDevice, ThinShape, device_of, pool_of, uses_of}
-use Rattle.pd_laid.specs.Tree.{tree_blocks, tree_root}
 use Rattle.pd_laid.proofs.LaidLemmas.{blocks_from-append, blocks_from-map, length-blocks_from, tree_written}
 use Rattle.pd_laid.proofs.NeedLemmas.{length-tree_blocks}
-use Rattle.pd_laid_shared.specs.Named.{named_times, used_times}
-use Rattle.pd_laid_shared.specs.Written.{AreShapePlaces, device_roots, device_tree, leaves_and_trees, shape_parts}
-use Rattle.pd_laid_shared.proofs.PoolNames.{leaves_before_map}
-use Rattle.pd_laid_shared.proofs.ShapeNeed.{allocated_named, counts_named, laid_need, map_place, overflow_named}
-use Rattle.pd_laid_shared.proofs.WrittenParts.{parts_written, places_are, tops_are}
-use Rattle.pd_shapes.specs.PoolText.{MeansPoolShape}
-use Rattle.pd_shapes.specs.SharedNeed.{shape_need, used_often}
-use Rattle.pd_smwrite.specs.Map as smap
-use Rattle.pd_smwrite.specs.Map.{data_map_blocks, data_map_need, data_map_root, allocated_of, meta_map_need, written_bitmap}
+use Rattle.pd_laid.proofs.PartSizes.{details_number as length-details}
+use Rattle.pd_laid.specs.PoolText.{MeansPoolShape, shape_need, used_often}
+use Rattle.pd_node.specs.Items.{entries_of, keys_of}
+use Rattle.pd_node.proofs.FromItems.{count_kept}
+use Rattle.pd_draft.specs.Closed.{DraftState, Wrote}
+use Rattle.pd_draft.proofs.DraftLemmas.{wrote_then}
+use Rattle.pd_count.specs.Counted.{count_of}
 use Rattle.pd_texts.specs.Reader.{in_order}
-use Rattle.pd_restore.specs.declared.parts.PoolRoots.{PoolRoots}
-use Rattle.pd_restore.specs.PoolRoots.{AreParts}
-use Rattle.pd_restore.specs.Reading.{WritesParts}
-use Rattle.pd_restore.specs.Written.{HasDevices, Known, shape_behind}
+use Rattle.pd_build.specs.declared.fault.BuildFault.{BuildFault}
+use Rattle.pd_build.proofs.TakesLemmas.{keys-entries}
+use Rattle.pd_smwrite.specs.Map.{data_map_blocks, data_map_need, data_map_root, allocated_of, meta_map_need, written_bitmap}
+use Rattle.pd_smwrite.specs.Map as smap
+use Rattle.pd_devices.proofs.DeviceLemmas.{details_number as details_codes, root_code}
+use Rattle.pd_restore.specs.declared.pool.PoolRoots.{PoolRoots}
+use Rattle.pd_restore.specs.Reading.{AreParts, WritesParts, HasDevices, Known, shape_behind}
+use Rattle.pd_laws_laid.specs.Shared.{named_times, used_times, AreShapePlaces, device_roots, device_tree, leaves_and_trees, shape_parts}
+use Rattle.pd_laws_laid.proofs.PoolNames.{leaves_before_map}
+use Rattle.pd_laws_laid.proofs.ShapeNeed.{allocated_named, counts_named, laid_need, map_place, overflow_named}
+use Rattle.pd_laws_laid.proofs.WrittenParts.{parts_written, places_are, tops_are}
+use Rattle.pd_laws_laid.proofs.MapLemmas.{write}
 
 -- the ids of devices ascend
 abbrev ids : List ShapeDevice → List ℕ
@@ -68,20 +63,6 @@ length-roots : (leaves : List (List Entry)) (place : ℕ) (ds : List ShapeDevice
 unfolding device_roots
 length-roots leaves place [] = refl
 length-roots leaves place (d ∷ ds) = ap suc (length-roots leaves (place + length (device_tree leaves place d)) ds)
-
-length-details : (ds : List ShapeDevice) → length (details_items ds) ≡ length ds
-unfolding details_items
-length-details [] = refl
-length-details (d ∷ ds) = ap suc (length-details ds)
-
-abbrev details_codes : Details → ℕ
-details_codes d = details_code d.mapped d.transaction d.created d.snapped
-
-abbrev root_code : Root → ℕ
-root_code r = r.0
-
-abbrev write : ℕ → LaidBlock → List ℕ
-write at b = b.written at
 
 same_root : {a c : ℕ} {b d : ℕ} (blocks allocated : ℕ) → a ≡ c → b ≡ d
     → ◌≡◌ {A = SmRoot} (record { blocks = blocks; allocated = allocated; bitmap_root = a; overflow_root = b }) (record { blocks = blocks; allocated = allocated; bitmap_root = c; overflow_root = d })
@@ -131,10 +112,10 @@ module _ (w : ThinShape) (s : Known) (start a : DraftState) (room : ℕ) (h : Ha
   roots_place = omega (arith, h.begin, h.written.moved, places.tops)
 
   roots_number : length s.roots ≡ length w.devices
-  roots_number = sym (length-entries root_code s.roots) ∙ (ap (λ (es : List Entry). length es) h.roots ∙ length-roots (shared_items w) (devices_at w) w.devices)
+  roots_number = sym (count_kept root_code s.roots) ∙ (ap (λ (es : List Entry). length es) h.roots ∙ length-roots (shared_items w) (devices_at w) w.devices)
 
   details_number : length s.details ≡ length w.devices
-  details_number = sym (length-entries details_codes s.details) ∙ (ap (λ (es : List Entry). length es) h.details ∙ length-details w.devices)
+  details_number = sym (count_kept details_codes s.details) ∙ (ap (λ (es : List Entry). length es) h.details ∙ length-details w.devices)
 
   pub roots_ascend : is_ascending (keys_of s.roots) ≡ true
   unfolding pool_of
@@ -165,11 +146,11 @@ module _ (w : ThinShape) (s : Known) (start a : DraftState) (room : ℕ) (h : Ha
   -- each part as it is written, with the place behind it
   pub roots_step : {b : DraftState} → Wrote (tree_blocks 8 a.place (entries_of root_code s.roots)) a b → b.place ≡ details_at w
   roots_step {b} wrote =
-      omega (arith, wrote.moved, length-tree_blocks 8 a.place (entries_of root_code s.roots), ap (need_tree 8) (length-entries root_code s.roots), ap (need_tree 8) roots_number, roots_place, places.details)
+      omega (arith, wrote.moved, length-tree_blocks 8 a.place (entries_of root_code s.roots), ap (need_tree 8) (count_kept root_code s.roots), ap (need_tree 8) roots_number, roots_place, places.details)
 
   pub details_step : {b e : DraftState} → b.place ≡ details_at w → Wrote (tree_blocks 24 b.place (entries_of details_codes s.details)) b e → e.place ≡ bitmaps_at w
   details_step {b} {e} here wrote =
-      omega (arith, wrote.moved, length-tree_blocks 24 b.place (entries_of details_codes s.details), ap (need_tree 24) (length-entries details_codes s.details), ap (need_tree 24) details_number, here, places.bitmaps)
+      omega (arith, wrote.moved, length-tree_blocks 24 b.place (entries_of details_codes s.details), ap (need_tree 24) (count_kept details_codes s.details), ap (need_tree 24) details_number, here, places.bitmaps)
 
   pub steps : {b e f : DraftState} → Wrote (tree_blocks 8 a.place (entries_of root_code s.roots)) a b → Wrote (tree_blocks 24 b.place (entries_of details_codes s.details)) b e
       → Wrote (data_map_blocks (count_of s.counts) s.counts.size e.place) e f → Behind w a b e f

@@ -2,22 +2,19 @@
 use Rattle.std.proofs.Common.{◌≡◌, ℕ, ◌+◌, List, [], ◌∷◌, ◌++◌, take, drop, append_assoc, refl, ap, ap₂, subst, ◌∙◌}
 use Rattle.std.specs.List.{AllByRecursion}
 use Rattle.pd_grammar.specs.Texts.{reading, whole}
-use Rattle.pd_grammar.proofs.GrammarLemmas.{read_if_lines}
-use Rattle.pd_grammar.proofs.LineLemmas.{AreRead}
+use Rattle.pd_grammar.proofs.GrammarLemmas.{read_if_lines, AreRead}
 use Rattle.pd_grammar.proofs.SpellingLemmas.{reading_if_spelled}
-use Rattle.pd_spells.specs.ThinText.{Line, Run, end_line, leaf_line, pool_format, pool_line, shared_first_line}
-use Rattle.pd_spells.proofs.ThinRead.{FitsLine, PlacedInPool}
-use Rattle.pd_shapes.specs.PoolText.{IsLawfulShape, MeansPoolShape, SpellsPoolShape}
-use Rattle.pd_shapes.specs.SharedText.{HasPartMappings, HasPieceMappings, HaveMappings, PartPiece, SharedPart, lines_of_leaves, mappings_of_runs, own_runs, used_leaf}
-use Rattle.pd_shapes.proofs.PoolLaws.{pool_language}
-use Rattle.pd_thin_meaning.specs.declared.joined.Run.{Run as SavedRun}
+use Rattle.pd_grammar.specs.ThinText.{Line, Run, end_line, leaf_line, pool_format, pool_line, shared_first_line}
+use Rattle.pd_grammar.proofs.ThinRead.{FitsLine, PlacedInPool}
+use Rattle.pd_grammar.proofs.ThinLaws.{joined_some}
+use Rattle.pd_laid.specs.PoolText.{IsLawfulShape, MeansPoolShape, SpellsPoolShape, HasPartMappings, HasPieceMappings, HaveMappings, PartPiece, SharedPart, lines_of_leaves, mappings_of_runs, own_runs, used_leaf}
+use Rattle.pd_laid.proofs.ShapeText.{pool_language}
+use Rattle.pd_meaning_thin.specs.declared.joined.Run.{Run as SavedRun}
+use Rattle.pd_restore.specs.Whole.{lines_to_end, head_of_pool}
+use Rattle.pd_restore.specs.ShapeLines.{shape_lines, shape_text, told_devices, told_leaves, told_runs}
 use Rattle.pd_salvage.specs.declared.saved.SavedHead.{SavedHead}
 use Rattle.pd_salvage.specs.declared.saved_shape.SavedLeaf.{SavedLeaf}
 use Rattle.pd_salvage.specs.SavedShape.{AreCounted, HeldShape, IsJoined, IsPartJoined, IsPieceJoined, IsSavedShape, device_parts, held_shape, leaf_parts}
-use Rattle.pd_restore.specs.Coming.{lines_to_end}
-use Rattle.pd_restore.specs.ShapeLines.{shape_lines, shape_text, told_devices, told_leaves, told_runs}
-use Rattle.pd_restore.specs.Whole.{head_of_pool}
-use Rattle.pd_restore.proofs.SavedTextLemmas.{joined_some}
 
 -- runs that are as long as can be have mappings
 runs_have : (runs : List Run) → IsJoined runs → HaveMappings runs

@@ -1,38 +1,37 @@
 -- What is gathered of a pool's text of version 2.
-use Rattle.std.proofs.Common.{◌≡◌, ⊎_elim, ℕ, suc, ◌+◌, ◌-◌, ◌<◌, ◌≤◌, ◌^◌, min, Bool, true, false, if◌then◌else◌, List, [], ◌∷◌, length, refl, sym, ◌∙◌, ap, subst, arith, Some, Result, Ok, Err}
-use Rattle.std.specs.Prelude.{OnOk}
-use Rattle.pd_draft.specs.Placed.{DraftState}
+use Rattle.std.proofs.Common.{◌≡◌, ⊎_elim, ℕ, suc, ◌+◌, ◌<◌, ◌≤◌, ◌^◌, min, Bool, true, false, if◌then◌else◌, List, [], ◌∷◌, length, refl, sym, ◌∙◌, ap, subst, arith, Some, ◌||◌, Result}
+use Rattle.std.specs.Prelude.{IfOk, OnOk}
 use Rattle.pd_grammar.specs.Spelling.{need_above_room}
-use Rattle.pd_grammar.specs.Texts as Texts
 use Rattle.pd_grammar.specs.Texts.{has_ended}
-use Rattle.pd_spells.specs.ThinText.{Line, LeafHead, Details, Run, first_line, shared_first_line, leaf_line, device_line, use_line, map_line, end_line, is_shared, pool_format}
-use Rattle.pd_spells.proofs.ThinRead.{pool_grammar}
-use Rattle.pd_shapes.specs.PoolText.{pool_need_so_far}
-use Rattle.pd_shapes.specs.SharedNeed.{shape_need_so_far}
-use Rattle.pd_texts.specs.declared.fault.ReadFault.TheVariants as c
-use Rattle.pd_texts.specs.declared.fault.TextFault.{TextFault}
+use Rattle.pd_grammar.specs.ThinText.{Line, LeafHead, Details, Run, leaf_line, device_line, use_line, map_line, end_line, is_shared, pool_format}
+use Rattle.pd_grammar.proofs.ThinRead.{pool_grammar}
+use Rattle.pd_grammar.specs.Texts
+use Rattle.pd_laid.specs.PoolText.{pool_need_so_far, shape_need_so_far, MeansAs, need_of_shared, shape_need, MeansShape}
+use Rattle.pd_laid.specs.Shape.{ThinShape}
+use Rattle.pd_draft.specs.Closed.{DraftState, Wrote}
+use Rattle.pd_texts.specs.declared.reader.TextFault.{TextFault}
 use Rattle.pd_texts.specs.declared.reader.TextReader.{TextReader}
-use Rattle.pd_texts.specs.declared.thin_line.ThinLine.{ThinLine}
+use Rattle.pd_texts.specs.declared.thin_text.ThinLine.{ThinLine}
 use Rattle.pd_texts.specs.declared.thin_state.ThinState.{ThinState}
-use Rattle.pd_texts.specs.Reader.{IsRefusedAfter, RefusesNext, begun}
-use Rattle.pd_texts.specs.ThinNext.{IsLeafLine, IsDeviceLine, IsUseLine, IsRunLine, IsEndLine}
+use Rattle.pd_texts.specs.Reader.{IsRefusedAfter, RefusesNext, begun, in_order}
+use Rattle.pd_texts.specs.ThinState.{IsLeafLine, IsDeviceLine, IsUseLine, IsRunLine, IsEndLine}
 use Rattle.pd_texts.proofs.ThinNextLemmas.{leaf_read, device_read, use_read, run_read, end_read}
-use Rattle.pd_shared_devices.specs.declared.devices.SharedDevices.{SharedDevices}
-use Rattle.pd_shared_devices.specs.Gathered.{HasGathered, Gathered}
-use Rattle.pd_restoring.specs.declared.fault.RestoreFault.TheVariants as r
+use Rattle.pd_texts.specs.declared.reader.ReadFault.TheVariants as c
+use Rattle.pd_build.specs.declared.fault.BuildFault.{BuildFault}
+use Rattle.pd_devices.proofs.DeviceLemmas.{top}
+use Rattle.pd_devices.specs.declared.shared_devices.SharedDevices.{SharedDevices}
+use Rattle.pd_devices.specs.SharedGathered.{HasGathered, Gathered, IsGatheredShape, counts_of, details_of, leaves_of, roots_of, uses_counted}
 use Rattle.pd_restoring.specs.Reading.{SaysOf}
 use Rattle.pd_restoring.proofs.ReadingLemmas.{above_here, refused_says}
+use Rattle.pd_restoring.specs.declared.fault.RestoreFault.TheVariants as r
 use Rattle.pd_restore.specs.declared.shared.SharedLines.{SharedLines}
-use Rattle.pd_restore.specs.Reading.{Follows, HasRoom, Reading}
+use Rattle.pd_restore.specs.Reading.{Follows, HasRoom, Reading, AreParts, HasReadAll, WritesParts, CanWriteParts, HasDevices, Known, shape_behind}
 use Rattle.pd_restore.specs.Shared.{HasShared}
 use Rattle.pd_restore.proofs.SharedLines.{device_fits, end_needs, few_lines, leaf_fits, map_fits, use_fits}
-
--- the first lines that a text may have
-abbrev firsts : List Line
-firsts = first_line ∷ shared_first_line ∷ []
-
-abbrev top : ℕ
-top = 2 ^ 64 - 1
+use Rattle.pd_restore.proofs.UnsharedLines.{firsts}
+use Rattle.pd_restore.specs.declared.pool.PoolRoots.{PoolRoots}
+use Rattle.pd_restore.proofs.ShapeParts.{whole_written}
+use Rattle.pd_restore.proofs.UnsharedParts.{version_in_order}
 
 -- what is needed of lines of version 2
 pub need_shared : (room : ℕ) (before : List Line) → is_shared before ≡ true → pool_need_so_far room before ≡ shape_need_so_far room before
@@ -60,11 +59,6 @@ bare_follows before room line f = record {
 
 capped : {n m : ℕ} → n ≤ top → m ≡ n → min n top ≡ m
 capped most is = omega (arith, most, is)
-
--- where a call went well, what holds, holds
-pub on_ok : {T E : Type 0} {P : Type 0} (result : Result T E) → P → OnOk result P
-on_ok (Ok value) p = p
-on_ok (Err fault) p = tt
 
 -- a line after these ones
 module _ {s : SharedDevices} {start now : DraftState} (room : ℕ) (before : List Line) where
@@ -184,3 +178,58 @@ module _ (room : ℕ) (before : List Line) (text : TextReader ThinState ThinLine
 pub few_lines_before : (room : ℕ) (before : List Line) (text : TextReader ThinState ThinLine) (s : SharedLines) (start now : DraftState) → Reading HasShared before room text s start now → length before < 2 ^ 62
 few_lines_before room before text s start now h =
     few_lines room before h.so_far.lines h.reads.going (subst (λ (n : ℕ). n ≤ room) (need_shared room before h.so_far.gathered.gathered.version) h.so_far.need) h.so_far.most
+
+-- What all lines of a pool's text of version 2 mean is written.
+
+leaves_within : (w : ThinShape) (room : ℕ) → length w.leaves ≤ shape_need w room
+unfolding shape_need need_of_shared
+leaves_within w room = omega arith
+
+-- what is known of devices that share leaves
+abbrev pub known_of : SharedDevices → Known
+known_of s = record { roots = roots_of s; details = details_of s; counts = counts_of s; leaves = leaves_of s; uses = uses_counted s }
+
+has_devices : (w : ThinShape) (s : SharedDevices) (start now : DraftState) → IsGatheredShape w s start now → HasDevices w (known_of s) start now
+has_devices w s start now h = record {
+  shape = h.shape;
+  lawful = h.lawful;
+  begin = h.begin;
+  written = h.written;
+  roots = h.roots;
+  details = h.details;
+  roots_fit = h.roots_fit;
+  details_fit = h.details_fit;
+  counted = h.counted;
+  size = h.size;
+  leaves = h.leaves;
+  uses = h.uses;
+}
+
+module _ (room : ℕ) (lines : List Line) (s : SharedLines) (start now : DraftState) (h : HasReadAll HasShared lines room s start now)
+    (found : (w : ThinShape) × (MeansShape (in_order lines []) w × (IsGatheredShape w s.devices start now × ((shape_need_so_far room lines ≡ shape_need w room) × ((uses_counted s.devices).size ≡ room))))) where
+  has_room : shape_need found.0 room ≤ room
+  has_room =
+      let need : shape_need_so_far room lines ≤ room = subst (λ (n : ℕ). n ≤ room) (need_shared room lines h.all.gathered.gathered.version) h.all.need in
+      omega (arith, need, found.1.1.1.0)
+
+  used : leaves_of s.devices ≤ (uses_counted s.devices).size
+  used = omega (arith, found.1.1.0.leaves, leaves_within found.0 room, has_room, found.1.1.1.1)
+
+  devices : HasDevices found.0 (known_of s.devices) start now
+  devices = has_devices found.0 s.devices start now found.1.1.0
+
+  -- its parts may be written
+  pub can_write_parts : CanWriteParts (known_of s.devices) room now
+  can_write_parts = record { shape = found.0; start = start; devices = devices; need = has_room; most = h.all.most; there = h.all.there; used = used }
+
+  version : is_shared (in_order lines []) ≡ true
+  version = version_in_order lines [] ∙ ap (λ (b : Bool). b || false) h.all.gathered.gathered.version
+
+  -- and then they are
+  pub parts_written : (to : DraftState) (result : Result PoolRoots BuildFault)
+      → ((w : ThinShape) (start : DraftState) → HasDevices w (known_of s.devices) start now → shape_need w room ≤ room → OnOk result (Wrote (shape_behind w room) start to))
+      → ((w : ThinShape) (start : DraftState) → HasDevices w (known_of s.devices) start now → shape_need w room ≤ room → IfOk result (AreParts w room))
+      → IfOk result (WritesParts lines room start to)
+  parts_written to result wrote named =
+      whole_written found.0 (known_of s.devices) start now to room lines devices (subst (λ (b : Bool). MeansAs b (in_order lines []) found.0) (sym version) found.1.0)
+      has_room h.all.most result (wrote found.0 start devices has_room) (named found.0 start devices has_room)

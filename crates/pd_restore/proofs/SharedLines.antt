@@ -1,33 +1,25 @@
 -- The lines of a pool's text of version 2, and what they need.
-use Rattle.std.proofs.Common.{◌≡◌, inl, inr, ℕ, suc, ◌+◌, ◌-◌, ◌*◌, ◌<◌, ◌≤◌, ◌^◌, Bool, true, false, if◌then◌else◌, eqb, List, [], ◌∷◌, length, map, sum, sum_by, refl, sym, ap, subst, arith}
+use Rattle.std.proofs.Common.{◌≡◌, inl, inr, ℕ, suc, ◌+◌, ◌-◌, ◌*◌, ◌<◌, ◌≤◌, ◌^◌, Bool, true, false, if◌then◌else◌, eqb, List, [], ◌∷◌, length, map, sum, sum_by, refl, sym, subst, arith}
 use Rattle.std.specs.List.{flat_map}
 use Rattle.std.proofs.lemmas.Bool.{cases_Bool, cases_lt, lt-ltb, true≢false}
-use Rattle.std.proofs.lemmas.Bool.Decides.{nat_tests}
-use Rattle.std.proofs.lemmas.List.{length-map}
 use Rattle.std.proofs.lemmas.List.Sums.{sum_by-cons}
 use Rattle.pd_kinds.specs.Bitmap.{bitmaps_for}
 use Rattle.pd_kinds.specs.Node.{max_entries}
 use Rattle.pd_grammar.specs.Texts.{has_ended}
-use Rattle.pd_grammar.proofs.GrammarLemmas.{is_read}
-use Rattle.pd_shapes.specs.SharedNeed.{Told, leaf_count, leaves_of_ended, leaves_of_told, lengthened, need_of_leaves, need_of_shared, shape_need_so_far, tell_newest, told_devices, told_nothing, used_often, with_run, with_use}
-use Rattle.pd_spells.specs.Need.{nodes_for, need_above, need_tree}
-use Rattle.pd_spells.specs.ThinNeed.{data_of_line, overflows_in}
-use Rattle.pd_spells.specs.ThinText as d
-use Rattle.pd_spells.specs.ThinText.{Line, first_line, shared_first_line, pool_line, leaf_line, device_line, use_line, map_line, end_line, pool_format, data_blocks_of, has_device, leaf_number, unmapped, uses_of}
-use Rattle.pd_spells.proofs.ThinRead.{FitsLine, PlacedInPool, pool_grammar}
-use Rattle.pd_restore.specs.Shared.{lacks_pieces}
-use Rattle.pd_restore.proofs.UnsharedLines.{overflows_most}
-use Rattle.pd_texts.specs.Reader.{IsReadAfter, AreReadSoFar}
+use Rattle.pd_grammar.specs.Need.{nodes_for, need_above, need_tree, data_of_line, overflows_in}
+use Rattle.pd_grammar.specs.ThinText.{Line, first_line, shared_first_line, pool_line, leaf_line, device_line, use_line, map_line, end_line, pool_format, data_blocks_of, has_device, leaf_number, unmapped, uses_of}
+use Rattle.pd_grammar.proofs.ThinRead.{pool_grammar}
+use Rattle.pd_grammar.specs.ThinText as d
+use Rattle.pd_laid.specs.PoolText.{Told, leaf_count, leaves_of_ended, leaves_of_told, lengthened, need_of_leaves, need_of_shared, shape_need_so_far, tell_newest, told_devices, told_nothing, used_often, with_run, with_use}
+use Rattle.pd_laid.proofs.NeedGrows.{leaves_for, told_number}
+use Rattle.pd_texts.specs.Reader.{AreReadSoFar}
 use Rattle.pd_texts.proofs.ThinNextLemmas.{pool_read, leaf_read, use_read, run_read}
-use Rattle.pd_restoring.proofs.NeedLemmas.{above_most, tree_most}
-use Rattle.pd_devices.proofs.TreeLemmas.{need_tree_some}
-
--- the first lines that a text may have
-abbrev firsts : List Line
-firsts = first_line ∷ shared_first_line ∷ []
-
-abbrev top : ℕ
-top = 2 ^ 64 - 1
+use Rattle.pd_build.proofs.TreeLemmas.{none_is}
+use Rattle.pd_devices.proofs.GrowthLemmas.{need_tree_some}
+use Rattle.pd_devices.proofs.DeviceLemmas.{top}
+use Rattle.pd_restoring.proofs.ReadingLemmas.{above_most}
+use Rattle.pd_restore.specs.Shared.{lacks_pieces}
+use Rattle.pd_restore.proofs.UnsharedLines.{overflows_most, first_alone, firsts, small_most}
 
 above_least : (levels nodes : ℕ) → nodes ≤ 252 * need_above (suc levels) nodes + 1
 unfolding need_above
@@ -40,16 +32,9 @@ often_most : (uses : List ℕ) (leaves : ℕ) → used_often uses leaves ≤ lea
 unfolding used_often
 often_most uses leaves = overflows_most uses leaves
 
--- the leaves that some pieces are spread over
-abbrev spread : List ℕ → ℕ
-spread own = sum_by (λ n. nodes_for (max_entries 8) n) own
-
-is_zero : (n : ℕ) → eqb n 0 ≡ true → n ≡ 0
-is_zero n e = grind (arith, nat_tests)
-
 none_told : (own : List ℕ) (uses : ℕ) → eqb (length own + uses) 0 ≡ true → (own ≡ []) × (uses ≡ 0)
-none_told [] uses e = let none = is_zero (length {A = ℕ} [] + uses) e in (refl, omega arith)
-none_told (n ∷ own) uses e = let none = is_zero (length (n ∷ own) + uses) e in absurd (omega arith)
+none_told [] uses e = let none = none_is (length {A = ℕ} [] + uses) e in (refl, omega arith)
+none_told (n ∷ own) uses e = let none = none_is (length (n ∷ own) + uses) e in absurd (omega arith)
 
 -- a device that ends without a piece has one leaf
 ended_is : (t : Told) → need_of_leaves (leaves_of_ended t) ≡ need_of_leaves (leaf_count t.own t.uses) + (if eqb (length t.own + t.uses) 0 then 1 else 0)
@@ -72,10 +57,6 @@ at_end (newest ∷ ds) =
       ended_is newest,
     )
 
-told_number : (ended : Bool) (told : List Told) → length (leaves_of_told ended told) ≡ length told
-told_number ended [] = refl
-told_number ended (newest ∷ ds) = ap suc (length-map ds leaves_of_ended)
-
 -- the need by its parts
 abbrev total : ℕ → ℕ → ℕ → ℕ → ℕ → ℕ → ℕ → ℕ
 total leaves below devices blocks over often room =
@@ -97,12 +78,12 @@ end_needs room before going =
 abbrev weight : Told → ℕ
 weight t = 1 + (sum t.own + t.uses)
 
-sum_spread : (own : List ℕ) → sum own ≤ 252 * spread own
+sum_spread : (own : List ℕ) → sum own ≤ 252 * leaves_for own
 sum_spread [] = omega arith
 sum_spread (n ∷ own) = omega (arith, sum_by-cons (λ (x : ℕ). x) n own, sum_by-cons (λ (m : ℕ). nodes_for (max_entries 8) m) n own, sum_spread own)
 
 weight_of : (t : Told) → weight t ≤ 2 + 252 * need_of_leaves (leaf_count t.own t.uses)
-weight_of t = omega (arith, sum_spread t.own, above_least 9 (spread t.own + t.uses))
+weight_of t = omega (arith, sum_spread t.own, above_least 9 (leaves_for t.own + t.uses))
 
 weight_ended : (t : Told) → weight t ≤ 2 + 252 * need_of_leaves (leaves_of_ended t)
 weight_ended t = omega (arith, weight_of t, ended_is t)
@@ -161,15 +142,12 @@ left_most : (b : Bool) (n : ℕ) → left_of b n ≤ n
 left_most true n = omega arith
 left_most false n = omega arith
 
-placed : (before : List Line) (line : Line) → IsReadAfter pool_format before line → PlacedInPool before line
-placed before line one = (is_read pool_format FitsLine PlacedInPool pool_grammar before one.bytes line one.is).placed
-
 -- each line but the first two gives a leaf, a mapping, a device or a use
 count_lines : (before : List Line) → AreReadSoFar pool_format before → has_ended pool_format before ≡ false
     → length before + left_of (has_device before) (unmapped before) ≤ 2 + (253 * leaf_number before + sum_by weight (told_devices before))
 count_lines [] so_far going = omega arith
-count_lines (first_line ∷ before) so_far going = let none = (placed before first_line so_far.0).0 in omega (arith, left_most (has_device before) 0)
-count_lines (shared_first_line ∷ before) so_far going = let none = (placed before shared_first_line so_far.0).0 in omega (arith, left_most (has_device before) 0)
+count_lines (first_line ∷ before) so_far going = let none = (first_alone before first_line so_far.0).0 in omega (arith, left_most (has_device before) 0)
+count_lines (shared_first_line ∷ before) so_far going = let none = (first_alone before shared_first_line so_far.0).0 in omega (arith, left_most (has_device before) 0)
 count_lines (pool_line p ∷ before) so_far going = let one = (pool_read firsts pool_grammar before p so_far.0).second in omega (arith, left_most (has_device before) 0)
 count_lines (leaf_line l ∷ before) so_far going =
     let is = leaf_read firsts pool_grammar before l so_far.0 in
@@ -209,10 +187,6 @@ blocks_small (use_line n ∷ before) so_far = blocks_small before so_far.1
 blocks_small (map_line m ∷ before) so_far = blocks_small before so_far.1
 blocks_small (end_line ∷ before) so_far = blocks_small before so_far.1
 
--- what is needed grows little with a line more
-small_most : (n : ℕ) → n ≤ 2 ^ 41 → (need_tree 8 n < 2 ^ 58) × ((need_tree 24 n < 2 ^ 58) × (need_tree 4 n < 2 ^ 58))
-small_most n few = (let most = tree_most 252 n in omega arith, (let most = tree_most 126 n in omega arith, let most = tree_most 336 n in omega arith))
-
 total_fits : (leaves below devices blocks over often more grown number another again room : ℕ) → total leaves below devices blocks over often room ≤ room → room ≤ 4161600
     → more ≤ leaves + 1 → grown ≤ 2 ^ 62 → number ≤ devices + 1 → another ≤ blocks → again ≤ more → blocks ≤ 2 ^ 40 → total more grown number blocks another again room ≤ top
 total_fits leaves below devices blocks over often more grown number another again room need most a b c e f small =
@@ -228,15 +202,15 @@ use_grows (t ∷ told) few =
       arith,
       sum_by-cons need_of_leaves (leaf_count t.own t.uses) (map leaves_of_ended told),
       sum_by-cons need_of_leaves (leaf_count t.own (t.uses + 1)) (map leaves_of_ended told),
-      above_least 9 (spread t.own + t.uses),
-      above_most 10 (spread t.own + (t.uses + 1)),
+      above_least 9 (leaves_for t.own + t.uses),
+      above_most 10 (leaves_for t.own + (t.uses + 1)),
     )
 
-longer_spread : (n : ℕ) (own : List ℕ) → spread (lengthened n own) ≤ spread own + (nodes_for 252 n + 1)
+longer_spread : (n : ℕ) (own : List ℕ) → leaves_for (lengthened n own) ≤ leaves_for own + (nodes_for 252 n + 1)
 longer_spread n [] = omega (arith, sum_by-cons (λ (m : ℕ). nodes_for (max_entries 8) m) n [])
 longer_spread n (m ∷ own) = omega (arith, sum_by-cons (λ (m : ℕ). nodes_for (max_entries 8) m) (m + n) own, sum_by-cons (λ (m : ℕ). nodes_for (max_entries 8) m) m own)
 
-run_spread : (in_run : Bool) (n : ℕ) (own : List ℕ) → spread (if in_run then lengthened n own else n ∷ own) ≤ spread own + (nodes_for 252 n + 1)
+run_spread : (in_run : Bool) (n : ℕ) (own : List ℕ) → leaves_for (if in_run then lengthened n own else n ∷ own) ≤ leaves_for own + (nodes_for 252 n + 1)
 run_spread true n own = longer_spread n own
 run_spread false n own = omega (arith, sum_by-cons (λ (m : ℕ). nodes_for (max_entries 8) m) n own)
 
@@ -248,8 +222,8 @@ run_grows n (t ∷ told) fits few =
       arith,
       sum_by-cons need_of_leaves (leaf_count t.own t.uses) (map leaves_of_ended told),
       sum_by-cons need_of_leaves (leaf_count own t.uses) (map leaves_of_ended told),
-      above_least 9 (spread t.own + t.uses),
-      above_most 10 (spread own + t.uses),
+      above_least 9 (leaves_for t.own + t.uses),
+      above_most 10 (leaves_for own + t.uses),
       run_spread t.in_run n t.own,
     )
 

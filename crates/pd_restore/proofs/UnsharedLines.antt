@@ -1,34 +1,35 @@
 -- The lines of a pool's text of version 1, and what they need.
-use Rattle.std.proofs.Common.{◌≡◌, ℕ, suc, ◌+◌, ◌-◌, ◌<◌, ◌≤◌, ◌^◌, false, leb, eqb, List, [], ◌∷◌, length, sum, sum_by, refl, sym, ◌∙◌, subst, arith}
+use Rattle.std.proofs.Common.{◌≡◌, ℕ, suc, ◌+◌, ◌-◌, ◌<◌, ◌≤◌, ◌^◌, false, leb, eqb, List, [], ◌∷◌, length, sum, sum_by, refl, sym, ◌∙◌, subst, arith, min}
 use Rattle.std.specs.List.{count_by, flat_map, range_with_len}
 use Rattle.std.proofs.lemmas.Bool.{true≢false}
 use Rattle.std.proofs.lemmas.List.FromFn.{length-range_with_len}
 use Rattle.std.proofs.lemmas.List.Sums.{sum_by-cons, count_by-le-length}
-use Rattle.pd_draft.specs.Placed.{DraftState}
 use Rattle.pd_grammar.specs.Texts.{has_ended}
 use Rattle.pd_grammar.proofs.GrammarLemmas.{is_read}
-use Rattle.pd_shapes.specs.PoolText.{pool_need_so_far}
-use Rattle.pd_spells.specs.Need.{nodes_of_tree, need_tree}
-use Rattle.pd_spells.specs.ThinNeed.{data_of_line, thin_need_so_far, need_of_devices, overflows_in}
-use Rattle.pd_spells.specs.ThinText as d
-use Rattle.pd_spells.specs.ThinText.{Line, first_line, shared_first_line, pool_line, leaf_line, device_line, use_line, map_line, end_line, pool_format, data_blocks_of, is_shared, unmapped}
-use Rattle.pd_spells.proofs.ThinRead.{FitsLine, PlacedInPool, pool_grammar}
-use Rattle.pd_texts.specs.declared.thin_line.ThinLine.{ThinLine}
-use Rattle.pd_texts.specs.declared.thin_line.ThinLine.TheVariants as v
-use Rattle.pd_texts.specs.declared.thin_line.Run2.{Run2}
+use Rattle.pd_grammar.specs.Need.{nodes_of_tree, need_tree, data_of_line, thin_need_so_far, need_of_devices, overflows_in}
+use Rattle.pd_grammar.specs.ThinText.{Line, first_line, shared_first_line, pool_line, leaf_line, device_line, use_line, map_line, end_line, pool_format, data_blocks_of, is_shared, unmapped}
+use Rattle.pd_grammar.proofs.ThinRead.{FitsLine, PlacedInPool, pool_grammar}
+use Rattle.pd_grammar.specs.ThinText as d
+use Rattle.pd_laid.specs.PoolText.{pool_need_so_far}
+use Rattle.pd_value.specs.declared.thin.Details.{Details}
+use Rattle.pd_draft.specs.Closed.{DraftState}
+use Rattle.pd_texts.specs.declared.thin_text.ThinLine.{ThinLine}
+use Rattle.pd_texts.specs.declared.thin_text.Run2.{Run2}
 use Rattle.pd_texts.specs.Reader.{IsReadAfter, AreReadSoFar}
 use Rattle.pd_texts.specs.ThinLine.{line_of, details_of, run_of}
-use Rattle.pd_texts.proofs.ThinNextLemmas.{pool_read, leaf_read, device_read, use_read, run_read}
-use Rattle.pd_value.specs.declared.thin.Details.{Details}
+use Rattle.pd_texts.proofs.ThinNextLemmas.{pool_read, leaf_read, device_read, use_read, run_read, end_read}
+use Rattle.pd_texts.specs.ThinState.{IsEndLine}
+use Rattle.pd_texts.specs.declared.thin_text.ThinLine.TheVariants as v
 use Rattle.pd_devices.specs.declared.devices.Devices.{Devices}
-use Rattle.pd_devices.proofs.TreeLemmas.{sum_few}
-use Rattle.pd_devices.proofs.GatherLemmas.{trees_within}
+use Rattle.pd_devices.proofs.GrowthLemmas.{sum_few}
+use Rattle.pd_devices.proofs.DeviceLemmas.{trees_within, top}
 use Rattle.pd_devices.specs.Devices.{MayFollow}
-use Rattle.pd_devices.specs.Gathered.{HasGathered, mapped_in}
-use Rattle.pd_restoring.proofs.NeedLemmas.{tree_most}
+use Rattle.pd_devices.specs.Gathered.{HasGathered, mapped_in, Gathered}
+use Rattle.pd_restoring.proofs.ReadingLemmas.{tree_most}
+use Rattle.pd_restore.specs.Reading.{Follows, HasRoom, HasUnshared}
 
 -- the first lines that a text may have
-abbrev firsts : List Line
+abbrev pub firsts : List Line
 firsts = first_line ∷ shared_first_line ∷ []
 
 -- what is needed of lines of version 1
@@ -65,7 +66,7 @@ map_after before line run is after =
 mappings_most : (n : ℕ) → n < 2 ^ 64 → need_tree 8 n < 2 ^ 58
 mappings_most n fits = let most = tree_most 252 n in omega arith
 
-small_most : (n : ℕ) → n ≤ 2 ^ 41 → (need_tree 8 n < 2 ^ 58) × ((need_tree 24 n < 2 ^ 58) × (need_tree 4 n < 2 ^ 58))
+pub small_most : (n : ℕ) → n ≤ 2 ^ 41 → (need_tree 8 n < 2 ^ 58) × ((need_tree 24 n < 2 ^ 58) × (need_tree 4 n < 2 ^ 58))
 small_most n few = (let most = tree_most 252 n in omega arith, (let most = tree_most 126 n in omega arith, let most = tree_most 336 n in omega arith))
 
 pub overflows_most : (ns : List ℕ) (blocks : ℕ) → overflows_in ns blocks ≤ blocks
@@ -80,10 +81,6 @@ some_tree n = omega arith
 trees_some : (mapped : List ℕ) → length mapped ≤ sum_by (need_tree 8) mapped
 trees_some [] = omega arith
 trees_some (n ∷ mapped) = omega (arith, trees_some mapped, some_tree n, sum_by-cons (need_tree 8) n mapped)
-
--- a number among lines
-abbrev top : ℕ
-top = 2 ^ 64 - 1
 
 device_fits : (room : ℕ) (before : List Line) (d : d.Details) → d.mapped < 2 ^ 64 → thin_need_so_far room before ≤ room → room ≤ 4161600 → thin_need_so_far room (device_line d ∷ before) ≤ top
 unfolding thin_need_so_far need_of_devices
@@ -117,7 +114,7 @@ same_version before (v.UseLeaf number) = refl
 same_version before (v.Map run) = refl
 
 -- the first line is the first
-first_alone : (before : List Line) (line : Line) → IsReadAfter pool_format before line → PlacedInPool before line
+pub first_alone : (before : List Line) (line : Line) → IsReadAfter pool_format before line → PlacedInPool before line
 first_alone before line one = (is_read pool_format FitsLine PlacedInPool pool_grammar before one.bytes line one.is).placed
 
 -- each line but the first two gives a mapping or a device
@@ -148,3 +145,41 @@ few_lines room before h lines going need most =
 pub end_need : (room : ℕ) (before : List Line) → is_shared before ≡ false → pool_need_so_far room (end_line ∷ before) ≡ pool_need_so_far room before
 unfolding thin_need_so_far
 end_need room before version = rw version refl
+
+-- What is gathered of a pool's text of version 1.
+
+-- what was gathered of lines that have room
+abbrev pub as_gathered : {s : Devices} {start now : DraftState} (before : List Line) (room : ℕ) → HasRoom HasUnshared before room s start now → Gathered s now
+as_gathered {s} {start} {now} before room h = record {
+  before = before;
+  start = start;
+  gathered = h.gathered;
+  room = room;
+  need = subst (λ (n : ℕ). n ≤ room) (need_is room before h.gathered.version) h.need;
+  most = h.most;
+  there = h.there;
+}
+
+-- the last line after these ones
+pub end_follows : (before : List Line) → IsReadAfter pool_format before end_line → IsEndLine before
+end_follows before after = end_read (first_line ∷ shared_first_line ∷ []) pool_grammar before after
+
+-- it needs nothing
+pub end_fits : (room : ℕ) (before : List Line) → is_shared before ≡ false → pool_need_so_far room before ≤ room → pool_need_so_far room (end_line ∷ before) ≤ room
+end_fits room before version need = subst (λ (n : ℕ). n ≤ room) (sym (end_need room before version)) need
+
+-- what is needed after a line more is known
+pub line_fits : {s : Devices} {start now : DraftState} (room : ℕ) (before : List Line) (line : ThinLine) → Follows HasUnshared before room s (line_of line) start now
+    → min (thin_need_so_far room (line_of line ∷ before)) (2 ^ 64 - 1) ≡ pool_need_so_far room (line_of line ∷ before)
+line_fits {s} {start} {now} room before line f =
+    let version = f.so_far.gathered.version in
+    let lacks : thin_need_so_far room before ≤ room = subst (λ (n : ℕ). n ≤ room) (need_is room before version) f.so_far.need in
+    let most = need_fits room before line f.later version f.lines.0 f.so_far.gathered.small lacks f.so_far.most in
+    capped most ∙ sym (need_is room (line_of line ∷ before) (same_version before line ∙ version))
+  where
+    capped : {n : ℕ} → n ≤ 2 ^ 64 - 1 → min n (2 ^ 64 - 1) ≡ n
+    capped most = omega arith
+
+-- a text that has room has few lines
+pub few_after : {s : Devices} {start now : DraftState} (room : ℕ) (before : List Line) (line : ThinLine) → Follows HasUnshared before room s (line_of line) start now → length before < 2 ^ 64 - 1
+few_after room before line f = few_lines room before f.so_far.gathered f.so_far.lines f.lines.0.going f.so_far.need f.so_far.most

@@ -1,28 +1,40 @@
 -- A pool with the leaves that its devices share, as what is restored from a text of either version.
+-- What the first two lines of a pool's text give.
+-- What is held in memory of a pool, as it is restored.
+-- What becomes of a device on which a pool is written that is held in memory, or its shape.
 use Rattle.std.proofs.Common.{refl, ap}
-use Rattle.std.specs.Prelude.{ℕ, true, false, List, [], Option}
+use Rattle.std.specs.Prelude.{ℕ, true, false, List, [], Option, Some, None, ◌≡◌, ◌≤◌, if◌then◌else◌}
+use Rattle.pd_kinds.specs.Objects.{SourceState, DeviceState}
+use Rattle.pd_kinds.specs.Meaning.{ThinPool}
 use Rattle.pd_grammar.specs.Texts.{Reading}
-use Rattle.pd_grammar.proofs.LineLemmas.{AreRead}
-use Rattle.pd_grammar.proofs.VerdictLemmas.{some_verdict}
-use Rattle.pd_spells.specs.ThinText.{Line, first_line, shared_first_line, pool_format, pool_line}
-use Rattle.pd_spells.proofs.ThinRead.{FitsLine, PlacedInPool}
-use Rattle.pd_laid.specs.LaidThin.{laid_shape}
+use Rattle.pd_grammar.proofs.GrammarLemmas.{AreRead}
+use Rattle.pd_grammar.proofs.SpellingLemmas.{some_verdict}
+use Rattle.pd_grammar.specs.ThinText.{Line, first_line, shared_first_line, pool_format, pool_line}
+use Rattle.pd_grammar.proofs.ThinRead.{FitsLine, PlacedInPool}
+use Rattle.pd_grammar.specs.Spelling.{Verdict, accepted}
+use Rattle.pd_grammar.specs.Lawful.{IsLawfulPool}
+use Rattle.pd_grammar.specs.Need.{thin_need}
+use Rattle.pd_laid.specs.LaidThin.{laid_shape, laid_pool}
 use Rattle.pd_laid.specs.Shape.{ThinShape}
-use Rattle.pd_shapes.specs.PoolText.{IsLawfulShape, MeansPoolShape, pool_need_so_far}
-use Rattle.pd_shapes.proofs.PoolLaws.{pool_language}
+use Rattle.pd_laid.specs.PoolText.{IsLawfulShape, MeansPoolShape, pool_need_so_far, IsPoolTextVerdict, shape_need}
+use Rattle.pd_laid.proofs.ShapeText.{pool_language}
 use Rattle.pd_texts.specs.Reader.{LeavesOf, ReadsOn, in_order}
 use Rattle.pd_texts.specs.ThinState.{ThinStands, first_of}
-use Rattle.pd_restoring.specs.Begin.{BeginsWith}
-use Rattle.pd_restoring.specs.Subject.{Subject, HasVerdicts}
+use Rattle.pd_texts.specs.declared.thin_text.ThinLine.{ThinLine}
+use Rattle.pd_texts.specs.declared.thin_text.ThinLine.TheVariants.{Pool, Leaf, Device, UseLeaf, Map}
+use Rattle.pd_restoring.specs.Reading.{BeginsWith}
+use Rattle.pd_restoring.specs.Restored.{Subject, HasVerdicts}
 use Rattle.pd_restoring.proofs.BeginLemmas.{begins_with}
-use Rattle.pd_restore.specs.declared.begin.Begun.{Begun}
-use Rattle.pd_restore.specs.declared.begin.Rest.{Rest}
-use Rattle.pd_restore.specs.declared.begin.Rest.TheVariants.{Text, Saved, Shape}
-use Rattle.pd_salvage.specs.declared.saved.SavedHead.{SavedHead}
-use Rattle.pd_restore.specs.Coming.{IsTextOf, lines_to_end, made_begun}
+use Rattle.pd_restoring.specs.Made.{Content, IsMade}
+pub use Rattle.pd_restoring.specs.Made.{CountsMade, Ending, IsDone, IsEarly, IsOfOthers, done, ending_of, failed, lacking, short, unbegun}
+use Rattle.pd_restore.specs.declared.thin.Begun.{Begun}
+use Rattle.pd_restore.specs.declared.thin.Rest.{Rest}
+use Rattle.pd_restore.specs.declared.thin.Rest.TheVariants.{Text, Saved, Shape}
+use Rattle.pd_restore.specs.Whole.{IsTextOf, lines_to_end, made_begun, begun_lines, head_of_pool}
 use Rattle.pd_restore.specs.SavedLines.{lines_left}
+use Rattle.pd_restore.specs.declared.known.Ended.{Ended}
 use Rattle.pd_restore.specs.ShapeLines as shape
-use Rattle.pd_restore.specs.Whole.{begun_lines, head_of_pool}
+use Rattle.pd_salvage.specs.declared.saved.SavedHead.{SavedHead}
 
 -- shapes of pools, and their texts
 abbrev pub pools : Subject Line ThinShape
@@ -79,3 +91,43 @@ pool_goes_on text begun left leaves = goes_on begun.rest leaves
       rest = lines_to_end (shape.lines_left made);
       is = ap (λ (r : Reading Line). r.lines) leaves.0;
     }
+
+-- the line is a pool's
+abbrev pub IsOfPool : Option ThinLine → Type 0
+IsOfPool None = ⊥
+IsOfPool (Some (Pool uuid time transaction block_size blocks)) = Unit {0}
+IsOfPool (Some (Leaf number entries)) = ⊥
+IsOfPool (Some (Device id details)) = ⊥
+IsOfPool (Some (UseLeaf number)) = ⊥
+IsOfPool (Some (Map run)) = ⊥
+
+-- its lines are those of a text that, where there is room for this shape, is accepted as the shape
+pub record GivesShape (w : ThinShape) (begun : Begun) : Type 0 where
+  pub text : List ℕ
+  pub leaves : PoolLeaves text begun (Some [])
+  pub lawful : IsLawfulShape w
+  pub only : (room : ℕ) (verdict : Verdict ThinShape) → shape_need w room ≤ room → IsPoolTextVerdict text room verdict → verdict ≡ accepted w
+
+-- its lines are those of some shape, which needs so many blocks
+pub record CanMake (need room : ℕ) (begun : Begun) : Type 0 where
+  pub shape : ThinShape
+  pub gives : GivesShape shape begun
+  pub needs : need ≡ shape_need shape room
+
+-- a source of which nothing is left
+abbrev pub ended_state : Ended → SourceState
+ended_state ended = record { access = if ended.attached then 1 else 0; path = None; left = Some []; faults = 0 }
+
+-- a pool as what is written, which shares no leaf; and a shape, whose shared leaves are laid once
+abbrev pub pool_content : ThinPool → Content
+pool_content pool = record { Lawful = IsLawfulPool pool; need = thin_need pool; laid = laid_pool pool }
+
+abbrev pub shape_content : ThinShape → Content
+shape_content w = record { Lawful = IsLawfulShape w; need = shape_need w; laid = laid_shape w }
+
+-- what becomes of the device
+abbrev pub IsMadeOf : ThinPool → Ending → DeviceState → DeviceState → Type 0
+IsMadeOf pool ending old new = IsMade (pool_content pool) ending old new
+
+abbrev pub IsShapeMadeOf : ThinShape → Ending → DeviceState → DeviceState → Type 0
+IsShapeMadeOf w ending old new = IsMade (shape_content w) ending old new

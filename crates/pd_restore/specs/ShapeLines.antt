@@ -2,18 +2,18 @@
 use Rattle.std.specs.Prelude.{ℕ, ◌+◌, List, [], ◌∷◌, ◌++◌, map, take, drop}
 use Rattle.std.specs.List.{flat_map}
 use Rattle.pd_grammar.specs.Texts.{text_of_lines}
-use Rattle.pd_shapes.specs.SharedText.{head_of_shape, lines_of_part, lines_of_piece, lines_of_shape}
-use Rattle.pd_spells.specs.ThinText.{Line, leaf_line, map_line, pool_format}
-use Rattle.pd_thin_meaning.specs.declared.joined.Run.{Run}
-use Rattle.pd_thin_meaning.specs.Joined.{spelled}
+use Rattle.pd_grammar.specs.ThinText.{Line, leaf_line, map_line, pool_format}
+use Rattle.pd_laid.specs.PoolText.{head_of_shape, lines_of_part, lines_of_piece, lines_of_shape}
+use Rattle.pd_meaning_thin.specs.declared.joined.Run.{Run}
+use Rattle.pd_meaning_thin.specs.Runs.{spelled}
+use Rattle.pd_restore.specs.declared.shape_lines.DeviceLines.{DeviceLines}
+use Rattle.pd_restore.specs.declared.shape_lines.LeafLines.{LeafLines}
+use Rattle.pd_restore.specs.declared.shape_lines.ShapeLines.{ShapeLines}
+use Rattle.pd_restore.specs.SavedLines.{behind, behind_runs, in_runs, in_span}
 use Rattle.pd_salvage.specs.declared.saved_shape.SavedLeaf.{SavedLeaf}
 use Rattle.pd_salvage.specs.declared.saved_shape.SavedPiece.{SavedPiece}
 use Rattle.pd_salvage.specs.declared.saved_shape.ShapedDevice.{ShapedDevice}
 use Rattle.pd_salvage.specs.SavedShape.{HeldShape, device_parts, held_shape, leaf_parts, piece_parts, runs_of_pieces}
-use Rattle.pd_restore.specs.declared.shape_lines.DeviceLines.{DeviceLines}
-use Rattle.pd_restore.specs.declared.shape_lines.LeafLines.{LeafLines}
-use Rattle.pd_restore.specs.declared.shape_lines.ShapeLines.{ShapeLines}
-use Rattle.pd_restore.specs.Spans.{behind, behind_runs, in_runs, in_span}
 
 -- the lines of runs; of leaves from a number on, each with as many of the runs as are its; of pieces; and of devices
 abbrev pub told_runs : List Run → List Line

@@ -1,19 +1,22 @@
 -- What a saved shape needs, by its pieces and runs.
-use Rattle.std.specs.Prelude.{◌≡◌, ℕ, ◌+◌, ◌<◌, List, [], ◌∷◌, length, map, take, drop, sum_by}
-use Rattle.std.specs.List.{flat_map}
+-- Which data blocks stand three times or more in what was saved.
+-- The data blocks of shared leaves, once for each use.
+use Rattle.std.specs.Prelude.{◌≡◌, ℕ, ◌+◌, ◌<◌, List, [], ◌∷◌, length, map, take, drop, sum_by, zero, suc, ◌^◌, ◌≤◌, ◌==◌, min, ◌++◌, count_by}
+use Rattle.std.specs.List.{flat_map, range_with_len}
+use Rattle.pd_grammar.specs.Need.{nodes_for}
 use Rattle.pd_laid.specs.Shape.{uses_of_piece}
-use Rattle.pd_shapes.specs.SharedNeed.{own_number}
-use Rattle.pd_shapes.specs.SharedText.{PartPiece, SharedPart, piece_of_part}
-use Rattle.pd_shared_devices.specs.Growth.{need_ended}
-use Rattle.pd_spells.specs.Need.{nodes_for}
-use Rattle.pd_runs.specs.Places.{runs_from}
-use Rattle.pd_thin_meaning.specs.declared.joined.Run.{Run}
+use Rattle.pd_laid.specs.PoolText.{own_number, PartPiece, SharedPart, piece_of_part}
+use Rattle.pd_count.specs.Counted.{Counted, count_of}
+use Rattle.pd_meaning_thin.specs.Packed.{runs_from}
+use Rattle.pd_meaning_thin.specs.declared.joined.Run.{Run}
+use Rattle.pd_devices.specs.SharedGrowth.{need_ended}
+use Rattle.pd_restore.specs.declared.shape_need.LeafCounts.{LeafCounts}
+use Rattle.pd_restore.specs.declared.shape_need.TreeCounts.{TreeCounts}
 use Rattle.pd_salvage.specs.declared.saved_shape.SavedPiece.{SavedPiece}
 use Rattle.pd_salvage.specs.declared.saved_shape.SavedPiece.TheVariants.{Own, Shared}
 use Rattle.pd_salvage.specs.declared.saved_shape.ShapedDevice.{ShapedDevice}
 use Rattle.pd_salvage.specs.SavedShape.{device_parts, piece_parts, runs_of_piece, runs_of_pieces}
-use Rattle.pd_restore.specs.declared.shape_need.LeafCounts.{LeafCounts}
-use Rattle.pd_restore.specs.declared.shape_need.TreeCounts.{TreeCounts}
+use Rattle.pd_salvage.specs.declared.saved_shape.SavedLeaf.{SavedLeaf}
 
 -- the leaf that a piece uses
 abbrev pub uses_of_saved : SavedPiece → List ℕ
@@ -64,3 +67,31 @@ pub record CountsDevices (devices : List ShapedDevice) (pieces : List SavedPiece
   pub trees : c.trees ≡ trees_of_parts (device_parts devices pieces runs)
   pub met : c.pieces ≡ pieces_of devices
   pub taken : runs_from runs c.place ≡ drop (runs_of_pieces (take (pieces_of devices) pieces)) runs
+
+-- each block was counted as often as it stands in the list, up to three times
+abbrev pub HasCountedThrice : Counted → List ℕ → Type 0
+HasCountedThrice counts blocks = (b : ℕ) → count_of counts b ≡ min (count_by (λ r. r == b) blocks) 3
+
+-- the data blocks of some runs
+abbrev pub data_of_runs : List Run → List ℕ
+data_of_runs runs = flat_map (λ (r : Run). range_with_len r.target r.length) runs
+
+-- a run's data blocks are some of so many, and its time has 24 bits
+pub record IsRunIn (blocks : ℕ) (r : Run) : Type 0 where
+  pub within : r.target + r.length ≤ blocks
+  pub timed : r.time < 2 ^ 24
+
+-- so many copies of a list, one behind the other
+unfoldable pub copies : ℕ → List ℕ → List ℕ
+copies zero blocks = []
+copies (suc n) blocks = copies n blocks ++ blocks
+
+-- the data blocks of some runs, each run's so many times
+abbrev pub runs_used : ℕ → List Run → List ℕ
+runs_used times runs = flat_map (λ (r : Run). copies times (range_with_len r.target r.length)) runs
+
+-- those of leaves from a number on, whose runs come first of these, each leaf's as often as it is used
+abbrev pub leaves_used : (ℕ → ℕ) → ℕ → List SavedLeaf → List Run → List ℕ
+leaves_used times number [] runs = []
+leaves_used times number (leaf ∷ leaves) runs =
+    runs_used (times number) (take leaf.runs runs) ++ leaves_used times (suc number) leaves (drop leaf.runs runs)

@@ -1,10 +1,10 @@
 -- What is gathered of a pool's text of version 2.
 use Rattle.std.specs.Prelude.{◌≡◌, ℕ, ◌+◌, ◌==◌, Bool, false, List, [], ◌∷◌, length}
-use Rattle.pd_draft.specs.Placed.{DraftState}
-use Rattle.pd_shapes.specs.SharedNeed.{Told, told_devices}
-use Rattle.pd_spells.specs.ThinText.{Line, Run, map_line}
-use Rattle.pd_shared_devices.specs.declared.devices.SharedDevices.{SharedDevices}
-use Rattle.pd_shared_devices.specs.Gathered.{HasGathered}
+use Rattle.pd_grammar.specs.ThinText.{Line, Run, map_line}
+use Rattle.pd_laid.specs.PoolText.{Told, told_devices}
+use Rattle.pd_draft.specs.Closed.{DraftState}
+use Rattle.pd_devices.specs.declared.shared_devices.SharedDevices.{SharedDevices}
+use Rattle.pd_devices.specs.SharedGathered.{HasGathered}
 use Rattle.pd_restore.specs.declared.shared.SharedLines.{SharedLines}
 use Rattle.pd_restore.specs.Reading.{CanTake}
 

@@ -1,21 +1,21 @@
-//! What gathers the lines of a pool's text.
+//! What gathers the lines of a pool's text (`thin_restore`, `thin_repair`, `thin_shrink`).
 
 ghost use Rattle.std.specs.Prelude.{◌≡◌, ◌-◌, ◌<◌, ◌≤◌, ◌^◌, ℕ, Bool, if◌then◌else◌, List, [], ◌∷◌, length, IfOk, IfErr, OnOk, MatchResult};
+ghost use Rattle.pd_grammar.specs.ThinText.{Head, Line, end_line, first_line, pool_format, pool_line, shared_first_line};
+ghost use Rattle.pd_laid.specs.PoolText.{pool_need_so_far};
 ghost use Rattle.pd_image.specs.Device.{IsWritable};
-ghost use Rattle.pd_draft.specs.Closed.{IsClosed, StaysClosed};
-ghost use Rattle.pd_draft.specs.Placed.{DraftState};
+ghost use Rattle.pd_draft.specs.Closed.{IsClosed, StaysClosed, DraftState};
 ghost use Rattle.pd_draft.specs.DraftState.{draft_state};
-ghost use Rattle.pd_spells.specs.ThinText.{Head, Line, end_line, first_line, pool_format, pool_line, shared_first_line};
-ghost use Rattle.pd_shapes.specs.PoolText.{pool_need_so_far};
 ghost use Rattle.pd_texts.specs.Reader.{RefusesNext};
 ghost use Rattle.pd_texts.specs.declared.reader.TextReader.{TextReader};
 ghost use Rattle.pd_texts.specs.declared.thin_state.ThinState.{ThinState};
 ghost use Rattle.pd_texts.specs.ThinLine.{line_of};
-ghost use Rattle.pd_build.specs.Causes.{CountsBuildFault};
+ghost use Rattle.pd_build.specs.Building.{CountsBuildFault};
 ghost use Rattle.pd_restoring.specs.Reading.{CountsTake, IsOfLater, SaysOf};
-ghost use Rattle.pd_restore.specs.Reading.{Gathers, Reading, CanTake, Follows, CanWrite, HasReadAll, WritesParts, IsNoRoom, IsOfText, IsOver, IsShort};
+ghost use Rattle.pd_restore.specs.Reading.{Gathers, Reading, CanTake, Follows, CanWrite, HasReadAll};
+ghost use Rattle.pd_restore.specs.Reading.{WritesParts, IsNoRoom, IsOfText, IsOver, IsShort};
 
-use crate::parts::PoolRoots;
+use crate::pool::PoolRoots;
 use pd_build::BuildFault;
 use pd_draft::Draft;
 use pd_image::Device;
@@ -50,11 +50,15 @@ pub(crate) trait Gathering: Drop {
         requires writable { IsWritable (draft_state draft.old).device }
         requires closed { IsClosed (draft_state draft.old).device }
         ensures same_reference { draft.new.dev.ghost_name ≡ draft.old.dev.ghost_name }
-        ensures gathered { (before : List Line) (start : DraftState) → Follows HasGathered before room self.old (line_of line) start (draft_state draft.old)
+        ensures gathered { (before : List Line) (start : DraftState)
+            → Follows HasGathered before room self.old (line_of line) start (draft_state draft.old)
             → OnOk result (HasGathered room (line_of line ∷ before) self.new start (draft_state draft.new)) }
-        ensures need { (before : List Line) (start : DraftState) → Follows HasGathered before room self.old (line_of line) start (draft_state draft.old)
-            → MatchResult result (λ _. pool_need_so_far room (line_of line ∷ before) ≤ room) (IsOver room (pool_need_so_far room (line_of line ∷ before))) }
-        ensures few { (before : List Line) (start : DraftState) → Follows HasGathered before room self.old (line_of line) start (draft_state draft.old) → length before < 2 ^ 64 - 1 }
+        ensures need { (before : List Line) (start : DraftState)
+            → Follows HasGathered before room self.old (line_of line) start (draft_state draft.old)
+            → MatchResult result (λ _. pool_need_so_far room (line_of line ∷ before) ≤ room)
+            (IsOver room (pool_need_so_far room (line_of line ∷ before))) }
+        ensures few { (before : List Line) (start : DraftState)
+            → Follows HasGathered before room self.old (line_of line) start (draft_state draft.old) → length before < 2 ^ 64 - 1 }
         ensures closed { StaysClosed (draft_state draft.old).device (draft_state draft.new).device }
         ensures faults { CountsTake result (draft_state draft.old).device.faults (draft_state draft.new).device.faults };
 
@@ -68,18 +72,23 @@ pub(crate) trait Gathering: Drop {
         requires writable { IsWritable (draft_state draft.old).device }
         requires closed { IsClosed (draft_state draft.old).device }
         ensures same_reference { draft.new.dev.ghost_name ≡ draft.old.dev.ghost_name }
-        ensures gathered { (before : List Line) (start : DraftState) → Follows HasGathered before room self.old end_line start (draft_state draft.old)
+        ensures gathered { (before : List Line) (start : DraftState)
+            → Follows HasGathered before room self.old end_line start (draft_state draft.old)
             → OnOk result (HasGathered room (end_line ∷ before) self.new start (draft_state draft.new)) }
-        ensures need { (before : List Line) (start : DraftState) → Follows HasGathered before room self.old end_line start (draft_state draft.old)
-            → MatchResult result (λ _. pool_need_so_far room (end_line ∷ before) ≤ room) (IsOver room (pool_need_so_far room (end_line ∷ before))) }
+        ensures need { (before : List Line) (start : DraftState)
+            → Follows HasGathered before room self.old end_line start (draft_state draft.old)
+            → MatchResult result (λ _. pool_need_so_far room (end_line ∷ before) ≤ room)
+            (IsOver room (pool_need_so_far room (end_line ∷ before))) }
         ensures closed { StaysClosed (draft_state draft.old).device (draft_state draft.new).device }
         ensures faults { CountsTake result (draft_state draft.old).device.faults (draft_state draft.new).device.faults };
 
     /// What is answered where the text is refused: that there is no room where it is refused behind its last line, for which
     /// there is none.
     fn refused(&self, fault: TextFault, room: u64) -> RestoreFault
-        ensures says { (before : List Line) (text : TextReader ThinState ThinLine) (start now : DraftState) → Reading HasGathered before room text self.now start now
-            → (first : Line) (t : List ℕ) → RefusesNext pool_format first end_line t before (ReadFault.Text fault) → SaysOf pool_format pool_need_so_far room t result }
+        ensures says { (before : List Line) (text : TextReader ThinState ThinLine) (start now : DraftState)
+            → Reading HasGathered before room text self.now start now
+            → (first : Line) (t : List ℕ) → RefusesNext pool_format first end_line t before (ReadFault.Text fault)
+            → SaysOf pool_format pool_need_so_far room t result }
         ensures later { 3 ≤ fault.line → IsOfLater result }
         ensures fault { IsOfText result };
 

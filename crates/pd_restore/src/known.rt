@@ -1,17 +1,14 @@
-//! What is held in memory, written to a device.
+//! What is held in memory, written to a device (`thin_repair`, `thin_shrink`).
 
-ghost use Rattle.std.specs.Prelude.{◌≡◌, ◌≤◌};
-ghost use Rattle.pd_kinds.specs.Limits.{room_of};
-ghost use Rattle.pd_image.specs.Device.{IsWritable, KeepsPlace};
+ghost use Rattle.std.specs.Prelude.{◌≡◌};
+ghost use Rattle.pd_kinds.specs.Image.{room_of};
 ghost use Rattle.pd_laid.specs.Shape.{ThinShape};
-ghost use Rattle.pd_shapes.specs.SharedNeed.{shape_need};
+ghost use Rattle.pd_laid.specs.PoolText.{shape_need};
+ghost use Rattle.pd_image.specs.Device.{IsWritable, KeepsPlace};
 ghost use Rattle.pd_restoring.specs.Made.{CountsMade, ending_of};
-ghost use Rattle.pd_restore.specs.Given.{CanMake, GivesShape};
-ghost use Rattle.pd_restore.specs.Made.{IsShapeMadeOf};
-ghost use Rattle.pd_restore.specs.Pools.{PoolStands};
+ghost use Rattle.pd_restore.specs.Pools.{CanMake, GivesShape, IsShapeMadeOf, PoolStands};
 
-use crate::begin::Begun;
-use crate::thin::Pools;
+use crate::thin::{Begun, Pools};
 use pd_image::{Device, Failed, Source};
 use pd_restoring::{MadeFault, RestoreFault, restore_begun};
 use std::alloc::Global;
@@ -28,7 +25,8 @@ pub(crate) fn restore_known<D: Device>(
     requires here { room ≡ room_of (D.state dev.old).blocks }
     requires stands { PoolStands begun }
     requires some { CanMake need room begun }
-    ensures made { (w : ThinShape) → GivesShape w begun → need ≡ shape_need w room → IsShapeMadeOf w (ending_of result) (D.state dev.old) (D.state dev.new) }
+    ensures made { (w : ThinShape) → GivesShape w begun
+        → need ≡ shape_need w room → IsShapeMadeOf w (ending_of result) (D.state dev.old) (D.state dev.new) }
     ensures place { KeepsPlace (D.state dev.old) (D.state dev.new) }
     ensures causes { CountsMade result (D.state dev.old).faults (D.state dev.new).faults }
 {
@@ -41,9 +39,11 @@ pub(crate) fn restore_known<D: Device>(
         Err(fault) => match fault {
             RestoreFault::Memory => Err(MadeFault::Memory),
             RestoreFault::Device => Err(MadeFault::Device),
+            RestoreFault::NoRoom { need: more, blocks } => {
+                Err(MadeFault::NoRoom { need: more, blocks })
+            }
             RestoreFault::Source => unreachable!(),
             RestoreFault::Text(_) => unreachable!(),
-            RestoreFault::NoRoom { .. } => unreachable!(),
         },
     }
 }
@@ -56,7 +56,7 @@ struct Ended {
 
 impl Source for Ended {
     ghost use Rattle.std.proofs.Common.{refl};
-    ghost use Rattle.pd_restore.specs.Given.{ended_state};
+    ghost use Rattle.pd_restore.specs.Pools.{ended_state};
 
     ghost state = { ended_state };
 

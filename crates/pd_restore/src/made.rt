@@ -1,25 +1,23 @@
-//! A pool that is held in memory, written to a device.
+//! A pool that is held in memory, written to a device (`thin_repair`, `thin_shrink`).
 
 ghost use Rattle.std.specs.Prelude.{◌≡◌, ℕ};
-ghost use Rattle.pd_image.specs.Device.{IsWritable, KeepsPlace};
+ghost use Rattle.pd_grammar.specs.Lawful.{IsLawfulPool};
+ghost use Rattle.pd_grammar.specs.Need.{thin_need};
 ghost use Rattle.pd_laid.specs.Shape.{shape_of};
+ghost use Rattle.pd_laid.specs.PoolText.{shape_need};
+ghost use Rattle.pd_image.specs.Device.{IsWritable, KeepsPlace};
+ghost use Rattle.pd_restore.specs.Pools.{GivesShape, CountsMade, IsMadeOf, ending_of, PoolStands};
 ghost use Rattle.pd_salvage.specs.Saved.{pool_of};
-ghost use Rattle.pd_shapes.specs.SharedNeed.{shape_need};
-ghost use Rattle.pd_spells.specs.Lawful.{IsLawfulPool};
-ghost use Rattle.pd_spells.specs.ThinNeed.{thin_need};
-ghost use Rattle.pd_restore.specs.Given.{GivesShape};
-ghost use Rattle.pd_restore.specs.Made.{CountsMade, IsMadeOf, ending_of};
-ghost use Rattle.pd_restore.specs.Pools.{PoolStands};
 
-use crate::begin::{Begun, Rest};
 use crate::known::restore_known;
 use crate::saved_lines::SavedLines;
 use crate::saved_need::need_of_saved;
+use crate::thin::{Begun, Rest};
 use pd_image::Device;
 use pd_kinds::MAX_META_BLOCKS;
+use pd_laid::{pool_text_has_one_verdict, pool_text_is_accepted_where_there_is_room};
 use pd_restoring::MadeFault;
 use pd_salvage::Salvage;
-use pd_shapes::{pool_text_has_one_verdict, pool_text_is_accepted_where_there_is_room};
 use std::alloc::Global;
 
 /// Writes a pool that is held in memory to a device, as a restore of its text does.

@@ -1,22 +1,21 @@
-//! How many blocks the pool of a saved shape needs where each device has leaves of its own.
+//! How many blocks the pool of a saved shape needs where each device has leaves of its own (`thin_repair --dry-run`).
 
 ghost use Rattle.std.specs.Prelude.{◌≡◌, ◌+◌, ◌≤◌, ℕ, List, ◌++◌, drop, length, map, take, IfOk, IfSome, OnOk};
 ghost use Rattle.std.specs.List.{AllByRecursion};
-ghost use Rattle.pd_count.specs.Counted.{count_of};
+ghost use Rattle.pd_grammar.specs.Need.{mapped_data, overflows_in, thin_need};
 ghost use Rattle.pd_laid.specs.Shape.{pool_of};
-ghost use Rattle.pd_spells.specs.ThinNeed.{mapped_data, overflows_in, thin_need};
-ghost use Rattle.pd_thin_meaning.specs.declared.joined.Run.{Run as SavedRun};
-ghost use Rattle.pd_runs.specs.Places.{runs_from};
+ghost use Rattle.pd_count.specs.Counted.{count_of};
+ghost use Rattle.pd_meaning_thin.specs.declared.joined.Run.{Run as SavedRun};
+ghost use Rattle.pd_meaning_thin.specs.Packed.{runs_from};
+ghost use Rattle.pd_restore.specs.ShapeNeed.{HasCountedThrice, leaves_used, runs_used};
 ghost use Rattle.pd_salvage.specs.SavedShape.{held_shape};
 ghost use Rattle.pd_salvage.specs.declared.saved_shape.ShapedDevice.{ShapedDevice as Device};
-ghost use Rattle.pd_restore.specs.Overflowing.{HasCountedThrice};
-ghost use Rattle.pd_restore.specs.PlainNeed.{leaves_used, runs_used};
 
-use crate::overflowing::Thrice;
+use crate::saved_lines::RunSpan;
+use crate::saved_need::Thrice;
 use crate::shape_need::uses_of;
-use crate::span::RunSpan;
 use pd_devices::need_thin;
-use pd_runs::{PackedRuns, RunPlace};
+use pd_meaning_thin::{PackedRuns, RunPlace};
 use pd_salvage::{SavedLeaf, SavedShape, ShapedDevice};
 use std::alloc::{AllocError, Global};
 
@@ -106,7 +105,8 @@ fn add_leaf(
     runs: &PackedRuns,
     place: &mut RunPlace,
 ) -> Result<(), AllocError>
-    requires within { AllByRecursion (λ (r : SavedRun). r.target + r.length ≤ counted.old.size) (take number (runs_from runs.now place.old)) }
+    requires within { AllByRecursion (λ (r : SavedRun). r.target + r.length ≤ counted.old.size)
+        (take number (runs_from runs.now place.old)) }
     ensures size { OnOk result (counted.new.size ≡ counted.old.size) }
     ensures listed { (before : List ℕ) → HasCountedThrice counted.old before
         → OnOk result (HasCountedThrice counted.new (before ++ runs_used times (take number (runs_from runs.now place.old)))) }

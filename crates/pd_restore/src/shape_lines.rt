@@ -1,13 +1,11 @@
-//! The lines of a saved shape, made one by one.
+//! The lines of a saved shape, made one by one (`thin_repair`, `thin_shrink`).
 
 ghost use Rattle.std.specs.Prelude.{◌≡◌, ◌∷◌, [], IfNone, IfSome};
-ghost use Rattle.pd_spells.specs.ThinText as p;
 ghost use Rattle.pd_texts.specs.ThinLine.{line_of};
 ghost use Rattle.pd_restore.specs.ShapeLines.{told_devices, told_leaves};
 
-use crate::giving::Giving;
-use crate::saved_lines::map_line;
-use crate::span::{RunSpan, Span};
+use crate::lines::Giving;
+use crate::saved_lines::{RunSpan, Span, map_line};
 use pd_salvage::{SavedPiece, SavedShape};
 use pd_texts::ThinLine;
 

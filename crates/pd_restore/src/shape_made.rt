@@ -1,21 +1,18 @@
-//! A shape that is held in memory, written to a device.
+//! A shape that is held in memory, written to a device (`thin_repair`, `thin_shrink`).
 
-ghost use Rattle.std.specs.Prelude.{◌≡◌};
 ghost use Rattle.pd_image.specs.Device.{IsWritable, KeepsPlace};
+ghost use Rattle.pd_restore.specs.Pools.{GivesShape, CountsMade, IsShapeMadeOf, ending_of, PoolStands};
 ghost use Rattle.pd_salvage.specs.SavedShape.{held_shape};
-ghost use Rattle.pd_restore.specs.Given.{GivesShape};
-ghost use Rattle.pd_restore.specs.Made.{CountsMade, IsShapeMadeOf, ending_of};
-ghost use Rattle.pd_restore.specs.Pools.{PoolStands};
 
-use crate::begin::{Begun, Rest};
 use crate::known::restore_known;
 use crate::shape_lines::ShapeLines;
 use crate::shape_need::need_of_shape;
+use crate::thin::{Begun, Rest};
 use pd_image::Device;
 use pd_kinds::MAX_META_BLOCKS;
+use pd_laid::{pool_text_has_one_verdict, pool_text_is_accepted_where_there_is_room};
 use pd_restoring::MadeFault;
 use pd_salvage::SavedShape;
-use pd_shapes::{pool_text_has_one_verdict, pool_text_is_accepted_where_there_is_room};
 use std::alloc::Global;
 
 /// Writes a shape that is held in memory to a device, as a restore of its text does: each shared leaf is written once.

@@ -1,22 +1,22 @@
-//! How many blocks a saved shape needs.
+//! How many blocks a saved shape needs (`thin_repair`, `thin_shrink`).
 
 ghost use Rattle.std.specs.Prelude.{◌≡◌, ◌+◌, ◌≤◌, ℕ, List, ◌++◌, drop, map, take, IfOk, IfSome, OnOk};
 ghost use Rattle.std.specs.List.{AllByRecursion, flat_map};
-ghost use Rattle.pd_thin_meaning.specs.declared.joined.Run.{Run as SavedRun};
-ghost use Rattle.pd_thin_meaning.specs.Joined.{spelled};
-ghost use Rattle.pd_runs.specs.Places.{runs_from};
+ghost use Rattle.pd_grammar.specs.Need.{overflows_in};
+ghost use Rattle.pd_grammar.specs.ThinText.{number_in};
+ghost use Rattle.pd_laid.specs.PoolText.{shape_need};
+ghost use Rattle.pd_meaning_thin.specs.declared.joined.Run.{Run as SavedRun};
+ghost use Rattle.pd_meaning_thin.specs.Runs.{spelled};
+ghost use Rattle.pd_meaning_thin.specs.Packed.{runs_from};
+ghost use Rattle.pd_restore.specs.ShapeNeed.{HasCountedThrice, data_of_runs, AddsDevice, AddsPiece, IsUseBelow};
+ghost use Rattle.pd_restore.specs.ShapeNeed.{CountsPieces, trees_of_parts, uses_of_saved};
 ghost use Rattle.pd_salvage.specs.SavedShape.{device_parts, held_shape};
-ghost use Rattle.pd_shapes.specs.SharedNeed.{shape_need};
-ghost use Rattle.pd_spells.specs.ThinNeed.{overflows_in};
-ghost use Rattle.pd_restore.specs.Overflowing.{HasCountedThrice, data_of_runs};
-ghost use Rattle.pd_spells.specs.ThinText.{number_in};
-ghost use Rattle.pd_restore.specs.ShapeNeed.{AddsDevice, AddsPiece, IsUseBelow, CountsPieces, trees_of_parts, uses_of_saved};
 
-use crate::overflowing::Thrice;
-use crate::span::RunSpan;
-use pd_runs::{PackedRuns, RunPlace};
+use crate::saved_lines::RunSpan;
+use crate::saved_need::Thrice;
+use pd_devices::{NeedCounts, leaves_for, need_of, tree_ended};
+use pd_meaning_thin::{PackedRuns, RunPlace};
 use pd_salvage::{PackedPiece, SavedPiece, SavedShape, ShapedDevice};
-use pd_shared_devices::{NeedCounts, leaves_for, need_of, tree_ended};
 use std::alloc::{AllocError, Global};
 
 /// The most leaves that are counted of a device.

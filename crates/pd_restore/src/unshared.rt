@@ -1,33 +1,31 @@
-//! A pool's text of version 1, whose devices share no leaf.
+//! A pool's text of version 1, whose devices share no leaf (`thin_restore`, `thin_repair`, `thin_shrink`).
 
 ghost use Rattle.std.specs.Prelude.{◌≡◌, ◌-◌, ◌≤◌, ◌^◌, List, ◌∷◌, min, IfErr, OnOk, MatchResult};
+ghost use Rattle.pd_grammar.specs.Need.{thin_need_so_far};
+ghost use Rattle.pd_grammar.specs.ThinText.{Line};
 ghost use Rattle.pd_image.specs.Device.{IsWritable};
-ghost use Rattle.pd_draft.specs.Closed.{IsClosed, StaysClosed};
-ghost use Rattle.pd_draft.specs.Placed.{DraftState};
+ghost use Rattle.pd_draft.specs.Closed.{IsClosed, StaysClosed, DraftState};
 ghost use Rattle.pd_draft.specs.DraftState.{draft_state};
-ghost use Rattle.pd_spells.specs.ThinNeed.{thin_need_so_far};
-ghost use Rattle.pd_spells.specs.ThinText.{Line};
 ghost use Rattle.pd_texts.specs.ThinLine.{line_of};
+ghost use Rattle.pd_build.specs.Building.{CountsBuildFault};
 ghost use Rattle.pd_devices.specs.Gathered.{HasGathered};
-ghost use Rattle.pd_build.specs.Causes.{CountsBuildFault};
-ghost use Rattle.pd_restore.specs.Reading.{CanTake, Follows, IsNoRoom, IsShort};
-ghost use Rattle.pd_restore.specs.Unshared.{HasUnshared};
+ghost use Rattle.pd_restore.specs.Reading.{CanTake, Follows, IsNoRoom, IsShort, HasUnshared};
 
 use crate::gathering::{Gathering, within};
-use crate::parts::{PoolRoots, write_behind};
+use crate::pool::{PoolRoots, write_behind};
 use pd_build::BuildFault;
 use pd_count::Counts;
 use pd_devices::{Devices, Run};
 use pd_draft::Draft;
 use pd_image::Device;
+use pd_laid::pool_text_is_accepted_where_there_is_room;
 use pd_restoring::RestoreFault;
-use pd_shapes::pool_text_is_accepted_where_there_is_room;
 use pd_texts::{TextFault, ThinLine};
 use std::alloc::{AllocError, Global};
 
 impl Gathering for Devices {
     ghost use Rattle.std.specs.Prelude.{false};
-    ghost use Rattle.pd_restore.specs.Unshared.{HasUnshared};
+    ghost use Rattle.pd_restore.specs.Reading.{HasUnshared};
 
     ghost HasGathered = { HasUnshared };
 
@@ -94,7 +92,8 @@ fn put_line<D: Device>(
     requires writable { IsWritable (draft_state draft.old).device }
     requires closed { IsClosed (draft_state draft.old).device }
     ensures same_reference { draft.new.dev.ghost_name ≡ draft.old.dev.ghost_name }
-    ensures gathered { (before : List Line) (start : DraftState) → Follows HasUnshared before room devices.old (line_of line) start (draft_state draft.old)
+    ensures gathered { (before : List Line) (start : DraftState)
+        → Follows HasUnshared before room devices.old (line_of line) start (draft_state draft.old)
         → OnOk result (HasUnshared room (line_of line ∷ before) devices.new start (draft_state draft.new)) }
     ensures closed { StaysClosed (draft_state draft.old).device (draft_state draft.new).device }
     ensures faults { CountsBuildFault result (draft_state draft.old).device.faults (draft_state draft.new).device.faults }
@@ -119,7 +118,8 @@ fn put_line<D: Device>(
 /// Whether there is room for what was restored so far.
 fn look(devices: &Devices, room: u64) -> Result<(), RestoreFault>
     ensures need { (before : List Line) (start now : DraftState) → HasGathered before devices.now start now
-        → MatchResult result (λ _. min (thin_need_so_far room before) (2 ^ 64 - 1) ≤ room) (IsShort room (min (thin_need_so_far room before) (2 ^ 64 - 1))) }
+        → MatchResult result (λ _. min (thin_need_so_far room before) (2 ^ 64 - 1) ≤ room)
+        (IsShort room (min (thin_need_so_far room before) (2 ^ 64 - 1))) }
     ensures fault { IfErr result IsNoRoom }
 {
     within(devices.need(room), room)

@@ -3,16 +3,15 @@ use Rattle.std.proofs.Common.{◌≡◌, inl, inr, ℕ, Bool, true, false, cond,
 use Rattle.std.specs.Prelude.{nat_lt, nat_eq}
 use Rattle.pd_grammar.specs.declared.cause.TextCause.{TextCause}
 use Rattle.pd_grammar.specs.declared.cause.TextCause.TheVariants.{TooLong, NoEnd, AfterEnd}
-use Rattle.pd_grammar.specs.Texts.{TextFormat, Reading, has_ended, read, reading, refused, whole, after_line, lines_after}
-use Rattle.pd_grammar.specs.Words.{split}
+use Rattle.pd_grammar.specs.Texts.{TextFormat, Reading, has_ended, read, reading, refused, whole, after_line, lines_after, split}
 use Rattle.pd_grammar.specs.Spelling.{need_above_room}
 use Rattle.pd_lines.specs.Reader.{held_of}
-use Rattle.pd_texts.specs.declared.fault.ReadFault.{ReadFault}
-use Rattle.pd_texts.specs.declared.fault.ReadFault.TheVariants as c
+use Rattle.pd_texts.specs.declared.reader.ReadFault.{ReadFault}
 use Rattle.pd_texts.specs.declared.reader.TextReader.{TextReader}
 use Rattle.pd_texts.specs.Reader.{LeavesOf, RefusesNext}
-use Rattle.pd_restoring.specs.Begin.{BeginsOf, BeginsWith}
-use Rattle.pd_restoring.specs.Faults.{read_fault}
+use Rattle.pd_texts.specs.declared.reader.ReadFault.TheVariants as c
+use Rattle.pd_restoring.specs.Reading.{BeginsOf, BeginsWith}
+use Rattle.pd_restoring.specs.Restored.{read_fault}
 
 -- a line that was read with others
 module _ {L : Type 0} (format : TextFormat L) where

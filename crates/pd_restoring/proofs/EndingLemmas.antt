@@ -2,21 +2,17 @@
 use Rattle.std.proofs.Common.{◌≡◌, inl, inr, ⊎_elim, ℕ, ◌<◌, ◌≤◌, Bool, List, IfSome, Result, Ok, Err, refl, sym, ◌∙◌, ap, subst, arith}
 use Rattle.std.proofs.lemmas.Option.{IfSome_then}
 use Rattle.pd_kinds.specs.Crash.{HoldsSynced, IsOldNoneOrMade, LeavesOnly}
-use Rattle.pd_kinds.specs.Limits.{room_of}
+use Rattle.pd_kinds.specs.Image.{room_of}
 use Rattle.pd_kinds.specs.Objects.{DeviceState, SourceState}
-use Rattle.pd_kinds.proofs.CrashLemmas.{still_tells, weaken}
+use Rattle.pd_kinds.proofs.CrashLemmas.{still_tells, weaken, Image}
 use Rattle.pd_grammar.specs.Spelling.{Verdict, accepted}
-use Rattle.pd_laid.specs.Laid.{IsLaid, Laid}
-use Rattle.pd_laid.specs.Made.{Makes}
-use Rattle.pd_texts.specs.declared.fault.TextFault.{TextFault}
+use Rattle.pd_laid.specs.Laid.{IsLaid, Laid, Makes}
+use Rattle.pd_texts.specs.declared.reader.TextFault.{TextFault}
 use Rattle.pd_restoring.specs.declared.fault.RestoreFault.{RestoreFault}
-use Rattle.pd_restoring.specs.declared.fault.RestoreFault.TheVariants as r
 use Rattle.pd_restoring.specs.Made.{AnswersEnding, Content, Ending, IsDone, IsMade, MakesContent, done, failed, lacking, short, unbegun}
 use Rattle.pd_restoring.specs.Restored.{AnswersFault, IsRestored}
 use Rattle.pd_restoring.proofs.RestoreLemmas.{at_rest, kept_same}
-
-abbrev Image : Type 0
-Image = List (List ℕ)
+use Rattle.pd_restoring.specs.declared.fault.RestoreFault.TheVariants as r
 
 -- a device that was left alone
 pub resting : (content : Content) (ending : Ending) (device : DeviceState) → (IsDone ending → ⊥) → AnswersEnding ending content (room_of device.blocks)

@@ -1,10 +1,6 @@
-pub mod MapLemmas
 pub mod ReadingLemmas
-pub mod BeginLemmas
-pub mod MadeLemmas
-pub mod NeedLemmas
-pub mod CrashLemmas
-pub mod ClosedLemmas
-pub mod RestoreLemmas
-pub mod EndingLemmas
 pub mod MakingLemmas
+pub mod RestoreLemmas
+pub mod BeginLemmas
+pub mod EndingLemmas
+pub mod MapLemmas

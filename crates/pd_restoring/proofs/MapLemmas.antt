@@ -1,16 +1,14 @@
 -- Counts of ones, and the maps that store them.
-use Rattle.std.proofs.Common.{◌≡◌, inl, inr, ℕ, ◌+◌, ◌<◌, ◌≤◌, [], length, refl, sym, ◌∙◌, ap, arith, Result, Ok, Err}
-use Rattle.std.specs.Prelude.{OnOk, IfOk}
+use Rattle.std.proofs.Common.{◌≡◌, inl, inr, ℕ, ◌+◌, ◌<◌, ◌≤◌, [], length, refl, sym, ◌∙◌, ap, arith}
 use Rattle.std.proofs.Math.Path.{fun_ext}
 use Rattle.std.proofs.lemmas.Bool.{cases_eq, cases_lt, lt-ltb, le-ltb}
 use Rattle.pd_kinds.specs.Bitmap.{bitmaps_for}
+use Rattle.pd_grammar.specs.Need.{need_tree, need_meta_map}
+use Rattle.pd_draft.specs.Closed.{DraftState, Wrote}
 use Rattle.pd_count.specs.Counted.{Counted, count_of, HasCounted, CountsOneMore}
-use Rattle.pd_spells.specs.Need.{need_tree, need_meta_map}
-use Rattle.pd_laid_once.specs.Once.{ones_below}
-use Rattle.pd_laid_once.proofs.MapLemmas.{ones_overflow}
-use Rattle.pd_smwrite.specs.Map.{meta_map_blocks, meta_map_need, meta_map_root}
-use Rattle.pd_draft.specs.Placed.{DraftState, Wrote}
-use Rattle.pd_smwrite.specs.Own.{CountsOwn, HasNone}
+use Rattle.pd_smwrite.specs.Map.{meta_map_blocks, meta_map_need, meta_map_root, CountsOwn, HasNone}
+use Rattle.pd_laws_laid.specs.Once.{ones_below}
+use Rattle.pd_laws_laid.proofs.MapLemmas.{ones_overflow}
 
 -- a one below, and none from there on
 below_one : (end b : ℕ) → b < end → ones_below end b ≡ 1
@@ -59,15 +57,6 @@ own_ones old new end number own ones = fun_ext at
         | inr past ↦ own.others b (inr past) ∙ (ones b ∙ (one_new end b from ∙ sym (one_new (end + number) b past)))
       ]
     ]
-
--- a fact about what a call did, of two others
-pub on_ok_both : {T E P Q R : Type 0} (r : Result T E) → OnOk r P → OnOk r Q → (P → Q → R) → OnOk r R
-on_ok_both (Ok x) p q f = f p q
-on_ok_both (Err e) p q f = tt
-
-pub if_ok_with : {T E P : Type 0} {Q R : T → Type 0} (r : Result T E) → OnOk r P → IfOk r Q → ((x : T) → P → Q x → R x) → IfOk r R
-if_ok_with (Ok x) p q f = f x p q
-if_ok_with (Err e) p q f = tt
 
 -- what is stored then
 stored_ones : (old new : Counted) (end place number room : ℕ) → end ≡ place → number ≡ need_meta_map room → CountsOwn place number old new

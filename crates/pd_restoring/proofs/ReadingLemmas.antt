@@ -1,44 +1,36 @@
 -- A text that is read and restored, line by line.
-use Rattle.std.proofs.Common.{◌≡◌, ⊎_elim, ℕ, ◌<◌, ◌≤◌, Bool, true, false, not, eqb, ◌&&◌, List, [], ◌∷◌, ◌++◌, length, refl, sym, ◌∙◌, ap, append_assoc, arith, Option, None, Some, Result, Ok, Err}
+use Rattle.std.proofs.Common.{◌≡◌, ⊎_elim, ℕ, ◌<◌, ◌≤◌, not, eqb, List, [], ◌∷◌, ◌++◌, length, refl, sym, ◌∙◌, ap, append_assoc, arith, Option, None, Some, Result, Ok, Err, inl, inr, zero, suc, ◌*◌, max}
 use Rattle.std.specs.Prelude.{IfErr}
-use Rattle.std.proofs.lemmas.Bool.Decides.{nat_tests}
-use Rattle.std.proofs.lemmas.Bool.{lt-ltb, le-ltb}
+use Rattle.std.proofs.lemmas.Bool.{lt-ltb, le-ltb, cases_lt}
 use Rattle.pd_kinds.specs.Objects.{SourceState}
-use Rattle.pd_image.specs.Source.{KeepsSource}
-use Rattle.pd_grammar.specs.Texts as Texts
 use Rattle.pd_grammar.specs.Texts.{TextFormat, text_of_lines, whole}
 use Rattle.pd_grammar.specs.Spelling.{need_above_room, accepted, IsVerdict}
-use Rattle.pd_texts.specs.declared.fault.TextFault.{TextFault}
-use Rattle.pd_texts.specs.declared.fault.ReadFault.{ReadFault}
-use Rattle.pd_texts.specs.declared.fault.ReadFault.TheVariants as c
-use Rattle.pd_texts.specs.declared.reader.TextReader.{TextReader}
+use Rattle.pd_grammar.specs.Need.{nodes_for, need_above, nodes_of_tree}
+use Rattle.pd_grammar.specs.Texts
+use Rattle.pd_image.specs.Source.{KeepsSource}
 use Rattle.pd_lines.specs.Reader.{lines_of}
-use Rattle.pd_texts.specs.Faults.{IsPast}
+use Rattle.pd_texts.specs.declared.reader.TextFault.{TextFault}
+use Rattle.pd_texts.specs.declared.reader.ReadFault.{ReadFault}
+use Rattle.pd_texts.specs.declared.reader.TextReader.{TextReader}
+use Rattle.pd_texts.specs.Reader.{IsPast, in_order, AreReadSoFar, ReadsOn, LeavesOf, GivesLine, GivesOf, IsWhole, IsRefusedAfter, RefusesNext, begun}
+use Rattle.pd_texts.proofs.ValueLemmas.{not_first, and_false}
+use Rattle.pd_texts.specs.declared.reader.ReadFault.TheVariants as c
 use Rattle.pd_build.specs.declared.fault.BuildFault.{BuildFault}
 use Rattle.pd_build.specs.declared.fault.BuildFault.TheVariants as b
-use Rattle.pd_texts.specs.Reader.{in_order, AreReadSoFar, ReadsOn, LeavesOf, GivesLine, GivesOf, IsWhole, IsRefusedAfter, RefusesNext, begun}
 use Rattle.pd_restoring.specs.declared.fault.RestoreFault.{RestoreFault}
-use Rattle.pd_restoring.specs.declared.fault.RestoreFault.TheVariants as r
-use Rattle.pd_restoring.specs.Faults.{read_fault, build_fault}
+use Rattle.pd_restoring.specs.Restored.{read_fault, build_fault}
 use Rattle.pd_restoring.specs.Reading.{NoneAbove, SaysOf, IsOfBuild, IsOfLater, CountsTake}
-
--- no line so far is above the room, also with one more that isn't
-and_false : (b : Bool) → (b && false) ≡ false
-and_false true = refl
-and_false false = refl
+use Rattle.pd_restoring.specs.declared.fault.RestoreFault.TheVariants as r
 
 pub above_next : {L : Type 0} (need : ℕ → List L → ℕ) (room : ℕ) (before : List L) (line : L) → NoneAbove need room before → need room (line ∷ before) ≤ room → NoneAbove need room (line ∷ before)
 above_next need room before line above fits lines =
     above (line ∷ lines) ∙ rw (le-ltb room (need room (line ∷ before)) fits, and_false (not (eqb (length before) 0))) refl
 
-some_lines : (n : ℕ) → 1 ≤ n → eqb n 0 ≡ false
-some_lines n some = grind (arith, nat_tests)
-
 -- the first one that is, is what is needed
 pub above_here : {L : Type 0} (need : ℕ → List L → ℕ) (room : ℕ) (before lines : List L) (line : L) → NoneAbove need room before → 1 ≤ length before → room < need room (line ∷ before)
     → need_above_room (need room) room [] (in_order before (line ∷ lines)) ≡ Some (need room (line ∷ before))
 above_here need room before lines line above some more =
-    above (line ∷ lines) ∙ rw (some_lines (length before) some, lt-ltb room (need room (line ∷ before)) more) refl
+    above (line ∷ lines) ∙ rw (not_first (length before) some, lt-ltb room (need room (line ∷ before)) more) refl
 
 -- what a reader gives after lines
 begun_same : {L : Type 0} (first : L) (before : List L) → 1 ≤ length before → begun first before ≡ before
@@ -128,3 +120,19 @@ one_later {L} before lines later line front others = front (line ∷ others) ∙
 -- what stays of a source over two calls
 pub keeps_source : {a b c : SourceState} → KeepsSource a b → KeepsSource b c → KeepsSource a c
 keeps_source p q = record { access = q.access ∙ p.access; path = q.path ∙ p.path }
+
+-- How many nodes a tree has at most.
+
+-- the nodes above so many
+pub above_most : (levels nodes : ℕ) → need_above levels nodes ≤ nodes
+unfolding need_above
+above_most zero nodes = omega arith
+above_most (suc levels) nodes = elim (cases_lt 1 nodes) [
+  | inl some ↦ rw (lt-ltb 1 nodes some) (let rest = above_most levels (nodes_for 252 nodes) in omega arith)
+  | inr none ↦ rw (le-ltb 1 nodes none) (omega arith)
+]
+
+-- and those of a tree
+pub tree_most : (most n : ℕ) → nodes_of_tree most n ≤ 2 * max 1 (nodes_for most n)
+unfolding nodes_of_tree
+tree_most most n = let above = above_most 10 (max 1 (nodes_for most n)) in omega arith

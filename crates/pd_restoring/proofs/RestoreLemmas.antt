@@ -1,31 +1,27 @@
 -- A restore, put together from its first two lines, the closing of block 0 and the rest.
-use Rattle.std.proofs.Common.{◌≡◌, ◌⊎◌, inl, inr, ℕ, ◌<◌, ◌≤◌, Bool, true, set, List, [], ◌∷◌, length, Option, Some, None, IfSome, Result, Ok, Err, refl, sym, ap, ◌∙◌, arith}
+use Rattle.std.proofs.Common.{◌≡◌, ◌⊎◌, inl, inr, ℕ, ◌<◌, ◌≤◌, Bool, true, set, List, [], ◌∷◌, length, Option, Some, None, IfSome, Result, Ok, Err, refl, sym, ap, ◌∙◌, arith, subst}
 use Rattle.std.specs.Prelude.{MatchResult, nat_lt, IfErr, is_some}
 use Rattle.std.specs.Option.{option_map_or}
 use Rattle.std.proofs.lemmas.Bool.{both_ways, le-ltb}
-use Rattle.pd_kinds.specs.Crash.{HasNoSuper, HoldsOldOrNone, HoldsSynced, IsOldNoneOrMade, IsOldOrNone, LeavesOnly}
+use Rattle.pd_kinds.specs.Crash.{HasNoSuper, HoldsOldOrNone, HoldsSynced, IsOldNoneOrMade, IsOldOrNone, LeavesOnly, IsNoneOrNew}
 use Rattle.pd_kinds.specs.Field.{zeros}
-use Rattle.pd_kinds.specs.Limits.{room_of}
-use Rattle.pd_kinds.specs.Moments.{present_moment}
-use Rattle.pd_kinds.specs.Objects.{DeviceState, SourceState}
-use Rattle.pd_kinds.proofs.CrashLemmas.{stays, still_tells, left_now, left_synced}
-use Rattle.pd_draft.specs.Closed.{StaysClosed}
-use Rattle.pd_grammar.specs.Texts as Texts
+use Rattle.pd_kinds.specs.Image.{room_of}
+use Rattle.pd_kinds.specs.Objects.{present_moment, DeviceState, SourceState}
+use Rattle.pd_kinds.proofs.CrashLemmas.{stays, still_tells, left_now, left_synced, Image, and_then, weaken}
+use Rattle.pd_kinds.specs.declared.block.Block.{Block}
 use Rattle.pd_grammar.specs.Spelling.{Verdict, accepted, refused, no_room, need_above_room}
-use Rattle.pd_spells.specs.Early.{is_decided_early}
-use Rattle.pd_laid.specs.Made.{Makes}
+use Rattle.pd_grammar.specs.Early.{is_decided_early}
+use Rattle.pd_grammar.specs.Texts
+use Rattle.pd_laid.specs.Laid.{Makes, Laid, written_from}
+use Rattle.pd_image.proofs.CrashLemmas.{at_some}
+use Rattle.pd_draft.specs.Closed.{StaysClosed, DraftState, Wrote, placed}
+use Rattle.pd_draft.proofs.DraftLemmas.{zeros_none}
 use Rattle.pd_restoring.specs.declared.fault.RestoreFault.{RestoreFault}
-use Rattle.pd_restoring.specs.declared.fault.RestoreFault.TheVariants as r
-use Rattle.pd_restoring.specs.Begin.{BeginsOf, BeginsWith, BlamesSource}
-use Rattle.pd_restoring.specs.Reading.{IsOfLater, SaysOf}
-use Rattle.pd_restoring.specs.Restored.{AnswersFault, IsOfFirstLines, IsOfOthers}
-use Rattle.pd_restoring.specs.Subject.{Subject, IsVerdictOf, HasVerdicts}
-use Rattle.pd_restoring.specs.Whole.{Commits, CommitsSynced, Tries, ShutBy, Restores}
-use Rattle.pd_restoring.proofs.ClosedLemmas.{closed_crash, closed_kept, laid_crash, laid_synced, older, where_told}
+use Rattle.pd_restoring.specs.Reading.{BeginsOf, BeginsWith, BlamesSource, IsOfLater, SaysOf}
+use Rattle.pd_restoring.specs.Restored.{AnswersFault, IsOfFirstLines, IsOfOthers, Subject, IsVerdictOf, HasVerdicts, Commits, CommitsSynced, Tries, ShutBy, Restores, Lays, LaysOver, made_of, Writes}
+use Rattle.pd_restoring.proofs.MakingLemmas.{closed_crash, closed_kept, laid_crash, laid_synced, older, where_told}
 use Rattle.pd_restoring.proofs.ReadingLemmas.{above_here}
-
-abbrev Image : Type 0
-Image = List (List ℕ)
+use Rattle.pd_restoring.specs.declared.fault.RestoreFault.TheVariants as r
 
 -- a text that is told
 text_in : Option (List ℕ) → List ℕ
@@ -244,3 +240,71 @@ module _ {L M : Type 0} (k : Subject L M) where
             → IfErr result (λ fault. ShutBy fault mid new) → ((t : List ℕ) → from.left ≡ Some t → IfErr result (SaysOf k.format k.need room t)) → IfErr result IsOfLater → Restores k result from to old new
         begun_result verdicts (Ok done) tries shut says later = begun_done tries
         begun_result verdicts (Err fault) tries shut says later = begun_failed verdicts fault tries shut says later
+
+-- A restore, from the closing of block 0 on.
+
+-- puts leave no superblock
+none_yet : (made : Image) {old new : DeviceState} → StaysClosed old new → LeavesOnly (IsNoneOrNew made) old new
+none_yet made stays = weaken stays.crash (λ image firsts zeroed chance. inl (zeros_none image firsts zeroed))
+
+-- what is held once all is written but the superblock
+held_then : {a b : DraftState} (blocks image : Image) → a.place ≡ 1 → Wrote blocks a b → a.device.held ≡ Some image → b.device.held ≡ Some (placed image 1 blocks)
+held_then {a} {b} blocks image begin wrote held =
+    at_some a.device.held (λ (i : Image). b.device.held ≡ Some (placed i a.place blocks)) image held wrote.content ∙ ap (λ (place : ℕ). Some (placed image place blocks)) begin
+
+-- then the superblock
+committed : {a b : DraftState} {c : DeviceState} (laid : Laid) (super_block : List ℕ) → a.place ≡ 1 → super_block ≡ laid.super_block
+    → Wrote (written_from 1 laid.blocks) a b → ((image : Image) → b.device.held ≡ Some image → LeavesOnly (IsNoneOrNew (set image 0 super_block)) b.device c)
+    → (image : Image) → a.device.held ≡ Some image → LeavesOnly (IsNoneOrNew (made_of laid image)) a.device c
+unfolding made_of
+committed {a} {b} {c} laid super_block begin is wrote last image held =
+    let behind = written_from 1 laid.blocks in
+    let made = set (placed image 1 behind) 0 laid.super_block in
+    let leaves : LeavesOnly (IsNoneOrNew made) b.device c = rw is at (last (placed image 1 behind) (held_then behind image begin wrote held)) in
+    and_then (none_yet made wrote.stays) leaves
+
+-- and what is held and synced then
+synced : {a b : DraftState} {c : DeviceState} (laid : Laid) (super_block : List ℕ) → a.place ≡ 1 → super_block ≡ laid.super_block
+    → Wrote (written_from 1 laid.blocks) a b → IfSome b.device.held (λ image. HoldsSynced (set image 0 super_block) c)
+    → (image : Image) → a.device.held ≡ Some image → HoldsSynced (made_of laid image) c
+unfolding made_of
+synced {a} {b} {c} laid super_block begin is wrote done image held =
+    let behind = written_from 1 laid.blocks in
+    rw is at (at_some b.device.held (λ (i : Image). HoldsSynced (set i 0 super_block) c) (placed image 1 behind) (held_then behind image begin wrote held) done)
+
+-- something laid was written, and is committed
+module _ (laid : Laid) {a b : DraftState} {old new : DeviceState} (super_block : List ℕ) (same : a.device ≡ old) (begin : a.place ≡ 1) (is : super_block ≡ laid.super_block)
+    (wrote : Wrote (written_from 1 laid.blocks) a b) (last : (image : Image) → b.device.held ≡ Some image → LeavesOnly (IsNoneOrNew (set image 0 super_block)) b.device new) where
+  pub lays_over : LaysOver laid old new
+  lays_over = subst (λ (d : DeviceState). LaysOver laid d new) same (committed {a = a} {b = b} {c = new} laid super_block begin is wrote last)
+
+  pub lays : IfSome b.device.held (λ image. HoldsSynced (set image 0 super_block) new) → Lays laid (Ok tt) old new
+  lays done = (
+    lays_over,
+    subst (λ (d : DeviceState). (image : Image) → d.held ≡ Some image → HoldsSynced (made_of laid image) new) same
+        (synced {a = a} {b = b} {c = new} laid super_block begin is wrote done),
+  )
+
+-- what was written and is committed
+module _ {L M : Type 0} (k : Subject L M) (room : ℕ) (IsOf : List ℕ → Type 0) (left : Option (List ℕ)) {a b : DraftState} {old new : DeviceState} {block : Block} (same : a.device ≡ old) (begin : a.place ≡ 1)
+    (w : Writes k room IsOf left a b block) (last : (image : Image) → b.device.held ≡ Some image → LeavesOnly (IsNoneOrNew (set image 0 block.0)) b.device new) where
+  pub commits : Commits k room IsOf left old new
+  commits = subst (λ (d : DeviceState). Commits k room IsOf left d new) same (record {
+    meaning = w.meaning;
+    lawful = w.lawful;
+    fits = w.fits;
+    told = w.told;
+    crash = committed {a = a} {b = b} {c = new} (k.laid w.meaning room) block.0 begin w.super_is w.wrote last;
+  })
+
+  pub commits_synced : IfSome b.device.held (λ image. HoldsSynced (set image 0 block.0) new) → CommitsSynced k room IsOf left old new
+  commits_synced done = subst (λ (d : DeviceState). CommitsSynced k room IsOf left d new) same (record {
+    commits = record {
+      meaning = w.meaning;
+      lawful = w.lawful;
+      fits = w.fits;
+      told = w.told;
+      crash = committed {a = a} {b = b} {c = new} (k.laid w.meaning room) block.0 begin w.super_is w.wrote last;
+    };
+    done = synced {a = a} {b = b} {c = new} (k.laid w.meaning room) block.0 begin w.super_is w.wrote done;
+  })

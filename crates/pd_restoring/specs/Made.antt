@@ -1,11 +1,11 @@
 -- What becomes of a device on which something is written that is held in memory.
 use Rattle.std.specs.Prelude.{◌≡◌, ℕ, ◌<◌, ◌≤◌, List, Result, Ok, Err, IfSome}
 use Rattle.pd_kinds.specs.Crash.{HoldsOldOrNone, HoldsSynced, IsOldNoneOrMade, IsUntouched, LeavesOnly, StillTells}
-use Rattle.pd_kinds.specs.Limits.{room_of}
+use Rattle.pd_kinds.specs.Image.{room_of}
 use Rattle.pd_kinds.specs.Objects.{DeviceState, Rose}
 use Rattle.pd_laid.specs.Laid.{Laid, IsLaid}
-use Rattle.pd_restoring.specs.declared.made.MadeFault.{MadeFault}
-use Rattle.pd_restoring.specs.declared.made.MadeFault.TheVariants as m
+use Rattle.pd_restoring.specs.declared.fault.MadeFault.{MadeFault}
+use Rattle.pd_restoring.specs.declared.fault.MadeFault.TheVariants as m
 
 -- what is written: that it is lawful, how many blocks it needs where so many metadata blocks are there, and how it is laid there
 pub record Content : Type 1 where

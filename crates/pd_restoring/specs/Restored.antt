@@ -1,14 +1,27 @@
 -- What a restore promises, for any kind.
-use Rattle.std.specs.Prelude.{◌≡◌, ℕ, ◌≤◌, true, Bool, List, [], Result, OnOk, IfSome, MatchResult, Some}
-use Rattle.pd_kinds.specs.Limits.{room_of}
+-- What is restored.
+-- What is restored, from its third line on.
+-- The faults of what a restore calls, as its own.
+-- What is laid on a device whose block 0 is closed.
+use Rattle.std.specs.Prelude.{◌≡◌, ℕ, ◌≤◌, true, Bool, List, [], Result, OnOk, IfSome, MatchResult, Some, ◌⊎◌, slice_set, Option, Ok, Err}
+use Rattle.pd_kinds.specs.Image.{room_of}
 use Rattle.pd_kinds.specs.Objects.{SourceState, DeviceState, Rose}
-use Rattle.pd_kinds.specs.Crash.{HoldsOldOrNone, HoldsSynced, IsOldNoneOrMade, IsUntouched, LeavesOnly, StillTells}
-use Rattle.pd_grammar.specs.Spelling.{Verdict, accepted, refused, no_room}
-use Rattle.pd_laid.specs.Laid.{Laid}
-use Rattle.pd_laid.specs.Made.{Makes}
-use Rattle.pd_texts.specs.declared.fault.TextFault.{TextFault}
+use Rattle.pd_kinds.specs.Crash.{HoldsOldOrNone, HoldsSynced, IsOldNoneOrMade, IsUntouched, LeavesOnly, StillTells, IsNoneOrNew}
+use Rattle.pd_kinds.specs.declared.block.Block.{Block}
+use Rattle.pd_grammar.specs.Spelling.{Verdict, accepted, refused, no_room, IsVerdict}
+use Rattle.pd_grammar.specs.Texts.{TextFormat, reading}
+use Rattle.pd_grammar.specs.Early.{is_decided_early}
+use Rattle.pd_laid.specs.Laid.{Laid, Makes, laid_number, written_from}
+use Rattle.pd_draft.specs.Closed.{StaysClosed, DraftState, Wrote, placed}
+use Rattle.pd_texts.specs.declared.reader.TextFault.{TextFault}
+use Rattle.pd_texts.specs.declared.reader.ReadFault.{ReadFault}
+use Rattle.pd_texts.specs.declared.reader.ReadFault.TheVariants as t
+use Rattle.pd_build.specs.declared.fault.BuildFault.{BuildFault}
+use Rattle.pd_build.specs.declared.fault.BuildFault.TheVariants as b
 use Rattle.pd_restoring.specs.declared.fault.RestoreFault.{RestoreFault}
+use Rattle.pd_restoring.specs.declared.fault.MadeFault.{MadeFault}
 use Rattle.pd_restoring.specs.declared.fault.RestoreFault.TheVariants as r
+use Rattle.pd_restoring.specs.declared.fault.MadeFault.TheVariants as m
 
 -- what is answered to a verdict; a fault of an object, or want of memory, may be answered to any
 abbrev pub IsAccepted : {M : Type 0} → (M → Type 0) → Verdict M → Type 0
@@ -82,3 +95,87 @@ pub record IsRestored {M : Type 0} (Lawful : M → Type 0) (IsVerdictOn : List �
   pub first_lines : MatchResult result (λ done. Unit {0}) (λ fault. IsOfFirstLines fault → IsUntouched old new)
   pub untouched : early ≡ true → IsUntouched old new
   pub ended : OnOk result (IfSome from.left (λ text. to.left ≡ Some []))
+
+-- what the texts of a kind of metadata mean and need, and how what they mean is laid
+pub record Subject (L M : Type 0) : Type 1 where
+  pub format : TextFormat L
+  -- what lines mean, in their order
+  pub Means : List L → M → Type 0
+  -- what lines need, the newest first, where so many metadata blocks are there
+  pub need : ℕ → List L → ℕ
+  pub Lawful : M → Type 0
+  -- what is laid where so many metadata blocks are there
+  pub laid : M → ℕ → Laid
+
+-- the verdict on a text where so many metadata blocks are there
+abbrev pub IsVerdictOf : {L M : Type 0} → Subject L M → List ℕ → ℕ → Verdict M → Type 0
+IsVerdictOf k text room verdict = IsVerdict k.format k.Means (k.need room) text room verdict
+
+-- each text has a verdict
+abbrev pub HasVerdicts : {L M : Type 0} → Subject L M → Type 0
+HasVerdicts {L} {M} k = (text : List ℕ) (room : ℕ) → (v : Verdict M) × IsVerdictOf k text room v
+
+-- A meaning is written but for its superblock, which is this block. Of the texts whose first two lines were read, where
+-- the source tells one, that spells it, and has been read to its end
+pub record Writes {L M : Type 0} (k : Subject L M) (room : ℕ) (IsOf : List ℕ → Type 0) (left : Option (List ℕ)) (start now : DraftState) (block : Block) : Type 0 where
+  pub meaning : M
+  pub lawful : k.Lawful meaning
+  pub fits : laid_number (k.laid meaning room) ≤ room
+  pub super_is : block.0 ≡ (k.laid meaning room).super_block
+  pub wrote : Wrote (written_from 1 (k.laid meaning room).blocks) start now
+  pub told : (t : List ℕ) → IsOf t → IsVerdictOf k t room (accepted meaning) × (left ≡ Some [])
+
+-- the image with something laid written over it
+unfoldable pub made_of : Laid → List (List ℕ) → List (List ℕ)
+made_of laid image = slice_set (placed image 1 (written_from 1 laid.blocks)) 0 laid.super_block
+
+-- a meaning is committed: a crash leaves no valid superblock, or what is laid of it; where the source tells its text,
+-- that spells it
+pub record Commits {L M : Type 0} (k : Subject L M) (room : ℕ) (IsOf : List ℕ → Type 0) (left : Option (List ℕ)) (old new : DeviceState) : Type 0 where
+  pub meaning : M
+  pub lawful : k.Lawful meaning
+  pub fits : laid_number (k.laid meaning room) ≤ room
+  pub told : (t : List ℕ) → IsOf t → IsVerdictOf k t room (accepted meaning) × (left ≡ Some [])
+  pub crash : (image : List (List ℕ)) → old.held ≡ Some image → LeavesOnly (IsNoneOrNew (made_of (k.laid meaning room) image)) old new
+
+-- and all is synced
+pub record CommitsSynced {L M : Type 0} (k : Subject L M) (room : ℕ) (IsOf : List ℕ → Type 0) (left : Option (List ℕ)) (old new : DeviceState) : Type 0 where
+  pub commits : Commits k room IsOf left old new
+  pub done : (image : List (List ℕ)) → old.held ≡ Some image → HoldsSynced (made_of (k.laid commits.meaning room) image) new
+
+-- it was tried, or nothing was committed: a crash leaves zeros in block 0
+abbrev pub Tries : {L M : Type 0} → Subject L M → ℕ → (List ℕ → Type 0) → Option (List ℕ) → DeviceState → DeviceState → Type 0
+Tries k room IsOf left old new = StaysClosed old new ⊎ Commits k room IsOf left old new
+
+-- a fault that isn't the device's leaves block 0 closed
+abbrev pub ShutBy : RestoreFault → DeviceState → DeviceState → Type 0
+ShutBy r.Memory old new = StaysClosed old new
+ShutBy r.Source old new = StaysClosed old new
+ShutBy r.Device old new = Unit {0}
+ShutBy (r.Text fault) old new = StaysClosed old new
+ShutBy (r.NoRoom need blocks) old new = StaysClosed old new
+
+-- what a restore promises of a kind of metadata
+abbrev pub Restores : {L M : Type 0} → Subject L M → Result (Unit {0}) RestoreFault → SourceState → SourceState → DeviceState → DeviceState → Type 0
+Restores k result from to old new =
+    IsRestored k.Lawful (λ text room verdict. IsVerdictOf k text room verdict) (λ text room. is_decided_early (k.need room) room (reading k.format text).lines) k.laid result from to old new
+
+abbrev pub read_fault : ReadFault → RestoreFault
+read_fault t.Memory = r.Memory
+read_fault t.Source = r.Source
+read_fault (t.Text fault) = r.Text fault
+
+abbrev pub build_fault : BuildFault → RestoreFault
+build_fault b.Memory = r.Memory
+build_fault b.Device = r.Device
+
+-- a crash leaves no valid superblock, or what is laid
+abbrev pub LaysOver : Laid → DeviceState → DeviceState → Type 0
+LaysOver laid old new = (image : List (List ℕ)) → old.held ≡ Some image → LeavesOnly (IsNoneOrNew (made_of laid image)) old new
+
+-- it is laid and synced; or a crash leaves zeros in block 0; or it was tried
+abbrev pub Lays : Laid → Result (Unit {0}) MadeFault → DeviceState → DeviceState → Type 0
+Lays laid (Ok done) old new = LaysOver laid old new × ((image : List (List ℕ)) → old.held ≡ Some image → HoldsSynced (made_of laid image) new)
+Lays laid (Err m.Memory) old new = StaysClosed old new
+Lays laid (Err m.Device) old new = StaysClosed old new ⊎ LaysOver laid old new
+Lays laid (Err (m.NoRoom need blocks)) old new = ⊥

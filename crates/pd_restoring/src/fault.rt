@@ -1,8 +1,8 @@
-//! Why a restore failed.
+//! Why a restore failed (`thin_restore`, `cache_restore`, `era_restore`).
 
 ghost use Rattle.std.specs.Prelude.{◌≡◌};
 ghost use Rattle.pd_restoring.specs.declared.fault.RestoreFault.TheVariants.{Memory};
-ghost use Rattle.pd_restoring.specs.Faults.{read_fault, build_fault};
+ghost use Rattle.pd_restoring.specs.Restored.{read_fault, build_fault};
 
 use pd_build::BuildFault;
 use pd_texts::{ReadFault, TextFault};
@@ -62,4 +62,17 @@ impl From<BuildFault> for RestoreFault {
             BuildFault::Device => RestoreFault::Device,
         }
     }
+}
+
+// How the writing of what is held in memory ends (`thin_repair`, `cache_repair`, `thin_shrink`).
+
+/// Why what is held in memory wasn't written.
+#[derive(Clone, Copy, Debug, PartialEq, Eq)]
+pub enum MadeFault {
+    /// There wasn't enough memory.
+    Memory,
+    /// The device has failed.
+    Device,
+    /// There is no room: so many blocks are needed, and there are so many.
+    NoRoom { need: u64, blocks: u64 },
 }

@@ -1,15 +1,14 @@
-//! The map of the metadata blocks, where each is named once.
+//! The map of the metadata blocks, where each is named once (`cache_restore`, `era_restore`, `cache_repair`).
 
 ghost use Rattle.std.specs.Prelude.{◌≡◌, ◌+◌, ◌≤◌, ℕ, IfOk, OnOk};
+ghost use Rattle.pd_grammar.specs.Need.{need_meta_map};
 ghost use Rattle.pd_image.specs.Device.{IsWritable};
-ghost use Rattle.pd_draft.specs.Closed.{IsClosed, StaysClosed};
-ghost use Rattle.pd_draft.specs.Placed.{Wrote};
+ghost use Rattle.pd_draft.specs.Closed.{IsClosed, StaysClosed, Wrote};
 ghost use Rattle.pd_draft.specs.DraftState.{draft_state};
 ghost use Rattle.pd_count.specs.Counted.{count_of};
-ghost use Rattle.pd_spells.specs.Need.{need_meta_map};
-ghost use Rattle.pd_laid_once.specs.Once.{ones_below};
-ghost use Rattle.pd_build.specs.Causes.{CountsBuildFault};
+ghost use Rattle.pd_build.specs.Building.{CountsBuildFault};
 ghost use Rattle.pd_smwrite.specs.Map.{meta_map_blocks, meta_map_root};
+ghost use Rattle.pd_laws_laid.specs.Once.{ones_below};
 
 use pd_build::BuildFault;
 use pd_count::Counts;
@@ -31,7 +30,8 @@ pub fn write_own_map<D: Device>(
     requires room { room ≤ (draft_state draft.old).device.blocks }
     requires closed { IsClosed (draft_state draft.old).device }
     ensures same_reference { draft.new.dev.ghost_name ≡ draft.old.dev.ghost_name }
-    ensures wrote { OnOk result (Wrote (meta_map_blocks (ones_below (draft.old.next + need_meta_map room)) room draft.old.next) (draft_state draft.old) (draft_state draft.new)) }
+    ensures wrote { OnOk result (Wrote (meta_map_blocks (ones_below (draft.old.next + need_meta_map room)) room draft.old.next)
+        (draft_state draft.old) (draft_state draft.new)) }
     ensures root { IfOk result (λ root. root ≡ meta_map_root (ones_below (draft.old.next + need_meta_map room)) room draft.old.next) }
     ensures closed { StaysClosed (draft_state draft.old).device (draft_state draft.new).device }
     ensures faults { CountsBuildFault result (draft_state draft.old).device.faults (draft_state draft.new).device.faults }

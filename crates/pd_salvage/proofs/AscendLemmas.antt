@@ -1,23 +1,26 @@
 -- The entries that are given ascend, so that none of them is left out of those that ascend.
-use Rattle.std.proofs.Common.{◌≡◌, inl, inr, ℕ, zero, suc, ◌+◌, ◌^◌, ◌<◌, ◌≤◌, true, false, not, ◌&&◌, ◌||◌, nat_lt, nat_eq, List, [], ◌∷◌, ◌++◌, map, filter, refl, ap, arith, max, min, Option, None, eq-eqb}
+use Rattle.std.proofs.Common.{◌≡◌, inl, inr, ℕ, zero, suc, ◌+◌, ◌^◌, ◌<◌, ◌≤◌, true, false, not, ◌&&◌, ◌||◌, nat_lt, nat_eq, List, [], ◌∷◌, ◌++◌, map, filter, refl, ap, arith, max, min, Option, None, eq-eqb, Some, sym, ◌∙◌}
 use Rattle.std.specs.List.{flat_map, range_with_len}
 use Rattle.std.proofs.lemmas.List.{append-nil, map-append}
 use Rattle.std.proofs.lemmas.Bool.{cases_Bool, cases_lt, or_parts, not-false, lt-ltb, le-ltb, ne_eqb}
-use Rattle.pd_kinds.specs.Edge.{is_outside}
-use Rattle.pd_kinds.specs.Graph.{block_at}
+use Rattle.pd_kinds.specs.Graph.{is_outside, block_at}
 use Rattle.pd_kinds.specs.Layout.{leaf_entries, node_entries_of}
 use Rattle.pd_kinds.specs.Node.{Entry, entry_count, is_ascending, is_inner_node, key_at, value_at, child_at, node_bad, node_keys, node_tests}
-use Rattle.pd_laid.specs.Salvage.{salvaged_below, salvaged_entries, is_damaged, child_low, child_high}
-use Rattle.pd_laid.specs.Visits.{Visit, entries_of_visit, visits}
-use Rattle.pd_laid.proofs.VisitLemmas.{visits_give}
-use Rattle.pd_laws.proofs.SoundLemmas.{none_broken, tests_after_one}
-use Rattle.pd_tree.specs.Cursor.{root_left}
-use Rattle.pd_tree.specs.Items.{item_of}
-use Rattle.pd_tree.specs.Search.{KeysAscend}
-use Rattle.pd_tree.proofs.OrderLemmas.{keys_say}
-use Rattle.pd_tree.specs.Next.{IsNext}
-use Rattle.pd_salvage.specs.Ascending.{IsNextFrom, ascending_from}
-use Rattle.pd_salvage.specs.Range.{all_keys, items_of_visit, saved_below}
+use Rattle.pd_kinds.proofs.SoundLemmas.{none_broken, tests_after_one}
+use Rattle.pd_laid.specs.Salvage.{salvaged_below, salvaged_entries, is_damaged, child_low, child_high, Visit, entries_of_visit, visits}
+use Rattle.pd_laid.proofs.GatherLemmas.{visits_give}
+use Rattle.pd_value.specs.declared.thin.Details.{Details}
+use Rattle.pd_tree.specs.Cursor.{root_left, item_of}
+use Rattle.pd_tree.specs.Search.{KeysAscend, AreFrom, lookup}
+use Rattle.pd_tree.proofs.TreeLemmas.{keys_say}
+use Rattle.pd_tree.specs.Stack.{IsNext}
+use Rattle.pd_tree.proofs.SearchLemmas.{lookup_other, none_from}
+use Rattle.pd_meaning_thin.specs.Runs.{details_of}
+use Rattle.pd_salvage.specs.Range.{IsNextFrom, ascending_from, all_keys, items_of_visit, saved_below}
+use Rattle.pd_salvage.specs.declared.cursor.SavedCursor.{SavedCursor}
+use Rattle.pd_salvage.specs.declared.details.SavedDetails.{SavedDetails}
+use Rattle.pd_salvage.specs.Cursor.{saved_left}
+use Rattle.pd_salvage.specs.Details.{FindsSame, IsFound, KnowsHere, KnowsNothing, ahead_items, details_left}
 
 -- keys ascend, from one number on and below another
 abbrev pub AreAscending : ℕ → ℕ → List Entry → Type 0
@@ -168,3 +171,79 @@ none_below below root none = rw none refl
 pub none_answer : {X : Type 0} (least same : ℕ) (before old root new : List (ℕ × X)) → same ≡ least → old ≡ before → root ≡ [] → IsNextFrom same None old new
     → IsNext None (ascending_from least before) (ascending_from same (root ++ new))
 none_answer {X} least same before old root new is was none next = (rw (← is, ← was) next.0, rw (none, next.1) (ascending_none same))
+
+-- What is found of the details of devices, asked by ascending id.
+
+-- keys that ascend from a number on are from a lesser one on
+ascending_keys : {X : Type 0} (least low : ℕ) (items : List (ℕ × X)) → low ≤ least → AreFrom low (ascending_from least items)
+unfolding ascending_from
+ascending_keys {X} least low [] below = tt
+ascending_keys {X} least low (item ∷ items) below = elim (cases_lt item.0 least) [
+  | inl less ↦ rw (lt-ltb item.0 least less) (ascending_keys least low items below)
+  | inr from ↦ rw (le-ltb item.0 least from) (omega arith, ascending_keys (item.0 + 1) low items (omega arith))
+]
+
+-- keys below the least one aren't found
+pub none_left : {X : Type 0} (key least : ℕ) (items : List (ℕ × X)) → key < least → lookup key (ascending_from least items) ≡ None
+none_left {X} key least items less = none_from key least (ascending_from least items) (ascending_keys least least items (omega arith)) less
+
+-- a key that was read
+pub found_here : {X : Type 0} (id key : ℕ) (value : X) (left : List (ℕ × X)) → key ≡ id → IsFound id (Some value) ((key, value) ∷ left) ((key, value) ∷ left)
+unfolding lookup
+found_here {X} id key value left is =
+    record { here = rw (eq-eqb key id is) refl; later = λ other after. refl }
+
+-- a key past the wanted one
+pub found_past : {X : Type 0} (id key least : ℕ) (value : X) (items : List (ℕ × X)) → id < key → least ≡ key + 1
+    → IsFound {X = X} id None ((key, value) ∷ ascending_from least items) ((key, value) ∷ ascending_from least items)
+found_past {X} id key least value items past is =
+    let none = lookup_other id (key, value) (ascending_from least items) (λ equal. let so : key ≡ id = equal in omega arith) ∙ none_left id least items (omega arith) in
+    record { here = sym none; later = λ other after. refl }
+
+-- an entry with a lesser key is passed
+pub finds_later : {X : Type 0} (id key : ℕ) (value : X) (left : List (ℕ × X)) → key < id → FindsSame id ((key, value) ∷ left) left
+finds_later {X} id key value left less other after =
+    sym (lookup_other other (key, value) left (λ equal. let so : key ≡ other = equal in omega arith))
+
+-- the end
+pub found_none : {X : Type 0} (id : ℕ) (start old new : List (ℕ × X)) → FindsSame id start old → (old ≡ []) × (new ≡ []) → IsFound {X = X} id None start new
+unfolding lookup
+found_none {X} id start old new same none =
+    record { here = sym (ap (lookup id) none.0) ∙ same id (omega arith); later = λ key after. rw none.1 (sym (ap (lookup key) none.0) ∙ same key (omega arith)) }
+
+pub joined_same : {X : Type 0} (id : ℕ) (start old new : List (ℕ × X)) → FindsSame id start old → FindsSame id old new → FindsSame id start new
+joined_same {X} id start old new first last key after = last key after ∙ first key after
+
+-- what is known is found
+pub found_known : (id : ℕ) (known : Option Details) (image : List (List ℕ)) (start : List (ℕ × Details)) (old new : SavedDetails) → FindsSame id start (details_left image old) → KnowsHere id known old new
+    → IsFound id known start (details_left image new)
+found_known id known image start old new same knows =
+    rw knows.same (record { here = (knows.found image).here ∙ same id (omega arith); later = λ key after. same key (omega arith) })
+
+-- what the entry that was read last says
+module _ (id key : ℕ) (details : Details) (self : SavedDetails) (read : self.ahead ≡ Some (key, details)) where
+  pub knows_here : key ≡ id → KnowsHere id (Some details) self self
+  knows_here is = record { same = refl; found = λ image. rw read (found_here id key details (saved_left 24 details_of image self.entries) is) }
+
+  pub knows_past : id < key → KnowsHere id None self self
+  knows_past past = record {
+    same = refl;
+    found = λ image. rw read (found_past id key self.entries.least details _ past (self.follows (key, details) read));
+  }
+
+  pub knows_nothing : (new : SavedDetails) → key < id → new.ahead ≡ None → new.entries ≡ self.entries → KnowsNothing id self new
+  knows_nothing new less none same = record {
+    none = none;
+    same = same;
+    finds = λ image. rw (read, none, same) (finds_later id key details (saved_left 24 details_of image self.entries) less);
+  }
+
+-- nothing is found where nothing is left to read
+pub found_end : (id : ℕ) (image : List (List ℕ)) (start : List (ℕ × Details)) (old known : SavedDetails) (entries : SavedCursor Details)
+    → FindsSame id start (details_left image old) → KnowsNothing id old known
+    → IsNext {X = ℕ × Details} None (saved_left 24 details_of image known.entries) (saved_left 24 details_of image entries)
+    → IsFound id None start (ahead_items known.ahead ++ saved_left 24 details_of image entries)
+found_end id image start old known entries same nothing next =
+    rw nothing.none
+    (found_none id start (saved_left 24 details_of image known.entries) (saved_left 24 details_of image entries)
+    (joined_same id start (details_left image old) (saved_left 24 details_of image known.entries) same (rw nothing.none at (nothing.finds image))) next)

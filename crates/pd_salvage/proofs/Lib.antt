@@ -1,9 +1,5 @@
+pub mod GatherLemmas
+pub mod WayLemmas
 pub mod RangeLemmas
 pub mod AscendLemmas
-pub mod WayLemmas
-pub mod KnownLemmas
-pub mod ToldLemmas
-pub mod DetailsLemmas
-pub mod JoiningLemmas
-pub mod GatherLemmas
 pub mod SavingLemmas

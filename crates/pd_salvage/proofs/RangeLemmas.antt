@@ -1,18 +1,22 @@
 -- What is given below a block: nothing outside, of a damaged node, by paths of no node, or without keys, and else what its leaf or its children give.
-use Rattle.std.proofs.Common.{◌≡◌, inl, inr, ℕ, zero, suc, ◌+◌, ◌<◌, ◌≤◌, Bool, true, false, cond, not, ◌&&◌, ◌||◌, nat_lt, nat_eq, List, [], ◌∷◌, filter, refl, ◌∙◌, arith, max, min}
+use Rattle.std.proofs.Common.{◌≡◌, inl, inr, ℕ, zero, suc, ◌+◌, ◌<◌, ◌≤◌, Bool, true, false, cond, not, ◌&&◌, ◌||◌, nat_lt, nat_eq, List, [], ◌∷◌, filter, refl, ◌∙◌, arith, max, min, ◌-◌, ◌++◌, map, Option, sym, ap}
 use Rattle.std.specs.List.{flat_map, range_with_len}
 use Rattle.std.proofs.lemmas.Bool.{both_ways, cases_Bool, cases_lt, and_parts, or_parts, not-true, not-false, lt-ltb, le-ltb, ltb-true}
 use Rattle.std.proofs.lemmas.Grind.{flat_map-append}
 use Rattle.std.proofs.lemmas.List.{append-nil}
-use Rattle.pd_kinds.specs.Edge.{is_outside}
-use Rattle.pd_kinds.specs.Graph.{block_at}
-use Rattle.pd_kinds.specs.Layout.{leaf_entries}
+use Rattle.std.proofs.lemmas.List.Concat.{flat_map_single}
+use Rattle.std.proofs.lemmas.List.Folds.{flat_map-map}
+use Rattle.pd_kinds.specs.Graph.{is_outside, block_at}
+use Rattle.pd_kinds.specs.Layout.{leaf_entries, node_entries_of}
 use Rattle.pd_kinds.specs.Node.{Entry, entry_count, is_inner_node, key_at, child_at}
-use Rattle.pd_laid.specs.Salvage.{is_damaged, child_low, child_high}
-use Rattle.pd_laid.specs.Visits.{Visit, entries_of_visit, visits}
-use Rattle.pd_laid.proofs.GatherLemmas.{joined_twice}
-use Rattle.pd_salvage.specs.declared.range.Range.{Range}
-use Rattle.pd_salvage.specs.Range.{child_range, given_below, is_wanted}
+use Rattle.pd_laid.specs.Salvage.{is_damaged, child_low, child_high, Visit, entries_of_visit, visits}
+use Rattle.pd_laid.proofs.GatherLemmas.{joined_twice, same_joined}
+use Rattle.pd_tree.specs.Cursor.{item_of}
+use Rattle.pd_tree.specs.Stack.{last_place, stacked}
+use Rattle.pd_salvage.specs.declared.way.Range.{Range}
+use Rattle.pd_salvage.specs.Range.{child_range, given_below, is_wanted, is_in_range, items_of_visit, saved_below}
+use Rattle.pd_salvage.specs.declared.way.Way.{Way}
+use Rattle.pd_salvage.specs.Way.{GivesEntry, PopsNode, PushesNode, SameWay, Left, entry, frontier, left_from, nodes, saved_on, told, told_on}
 
 -- a range without keys has no key, nor has any part of it
 out_of_range : (low high key : ℕ) → high ≤ low → (not (nat_lt key low) && nat_lt key high) ≡ false
@@ -102,3 +106,98 @@ wanted nr b range in_it =
     let inside = not-true (is_outside nr b) (and_parts (not (is_outside nr b)) (nat_lt range.low range.high) in_it).0 in
     let parts = or_parts (nat_eq b 0) (not (nat_lt b nr)) inside in
     (inside, ltb-true b nr (not-false (nat_lt b nr) parts.1))
+
+-- What is told of what is left on the way.
+
+module _ {X : Type 0} (one : Entry → List X) (below : ℕ → Range → ℕ → List X) (size : ℕ) where
+  -- where there is no node, nothing is left
+  pub told_none : (way : Way) → way.stack.depth ≡ 0 → told_on one below size way ≡ []
+  unfolding frontier stacked
+  told_none way depth = rw depth refl
+
+  -- a way that grew
+  pub told_more : (old new : Way) (more : List Left) (xs : List X) → frontier size new ≡ more ++ frontier size old → flat_map (told one below) more ≡ xs
+      → told_on one below size new ≡ xs ++ told_on one below size old
+  told_more old new more xs left is = ap (flat_map (told one below)) left ∙ (flat_map-append (told one below) more (frontier size old) ∙ rw is refl)
+
+-- a node that was pushed and popped left the way as it was
+pub pushed_popped : (size : ℕ) (held : Option (List (List ℕ))) (b : ℕ) (range : Range) (old pushed popped : Way) → PushesNode size held b range old pushed → PopsNode pushed popped → SameWay size old popped
+unfolding frontier
+pushed_popped size held b range old pushed popped pushes pops =
+    let depth : popped.stack.depth ≡ old.stack.depth = (let down = pushes.depth in let up = pops.depth in omega arith) in
+    record {
+      depth = depth;
+      left = rw (depth, pops.places, pops.ranges) pushes.under;
+      number = rw (depth, pops.places) pushes.number_under;
+      knows = λ good image known. pops.knows good image (pushes.knows good image known);
+    }
+
+-- a sound inner node that was read is told as what is given below it
+module _ {X : Type 0} (one : Entry → List X) (given : Visit → List X) (size nr : ℕ) (image : List (List ℕ)) where
+  abbrev below : ℕ → Range → ℕ → List X
+  below j range b = given_below given size nr image j range b
+
+  told_nodes : (j : ℕ) (range : Range) (b : ℕ) → flat_map (told one below) (nodes j range b) ≡ below j range b
+  told_nodes zero range b = sym (none_deep given size nr image b range)
+  told_nodes (suc j) range b = append-nil (below (suc j) range b)
+
+  pub told_inner : (i j b : ℕ) (range : Range) (block : List ℕ) → i ≡ suc j → block_at image b ≡ block → is_outside nr b ≡ false → is_damaged size b block ≡ false → is_inner_node block ≡ true
+      → flat_map (told one below) (left_from size j range block 0) ≡ below i range b
+  unfolding left_from
+  told_inner i j b range block step is inside sound inner =
+      let all : entry_count size block - 0 ≡ entry_count size block = omega arith in
+      let children = range_with_len 0 (entry_count size block) in
+      rw (step, inner, all)
+      (joined_twice (told one below) (λ i. nodes j (child_range size block range i) (child_at block i)) children
+      ∙ (same_joined (λ i. flat_map (told one below) (nodes j (child_range size block range i) (child_at block i))) (λ i. below j (child_range size block range i) (child_at block i)) 0 (entry_count size block)
+      (λ i from within. told_nodes j (child_range size block range i) (child_at block i))
+      ∙ sym (rw is at (at_inner given size nr image j b range inside (rw is sound) (rw is inner)))))
+
+-- what is saved of what is left
+module _ {X : Type 0} (size : ℕ) (decoded : ℕ → X) (nr : ℕ) (image : List (List ℕ)) where
+  abbrev one : Entry → List (ℕ × X)
+  one e = item_of decoded e ∷ []
+
+  abbrev saved : ℕ → Range → ℕ → List (ℕ × X)
+  saved j range b = saved_below size decoded nr image j range b
+
+  -- nothing where there is no node, or of a block that is not wanted
+  pub saved_none : (way : Way) → way.stack.depth ≡ 0 → saved_on size decoded nr image way ≡ []
+  saved_none way depth = told_none one saved size way depth
+
+  pub saved_unwanted : (j b : ℕ) (range : Range) → is_wanted nr b range ≡ false → saved_below size decoded nr image j range b ≡ []
+  unfolding saved_below
+  saved_unwanted j b range out = unwanted (items_of_visit size decoded image) size nr image (λ v none. ap (map (item_of decoded)) none) j b range out
+
+  -- a damaged node that was read leaves all as it was
+  pub saved_damaged : (j b : ℕ) (range : Range) (old new : Way) → SameWay size old new → is_damaged size b (block_at image b) ≡ true
+      → saved_on size decoded nr image new ≡ saved_below size decoded nr image j range b ++ saved_on size decoded nr image old
+  unfolding saved_below
+  saved_damaged j b range old new same damaged = rw (none_damaged (items_of_visit size decoded image) size nr image j b range damaged) (ap (flat_map (told one saved)) same.left)
+
+  -- a sound node that was read is told as what is saved below it
+  told_sound : (i j b : ℕ) (range : Range) (block : List ℕ) → i ≡ suc j → block_at image b ≡ block → is_outside nr b ≡ false → is_damaged size b block ≡ false
+      → flat_map (told one saved) (left_from size j range block 0) ≡ saved_below size decoded nr image i range b
+  unfolding saved_below left_from leaf_entries node_entries_of
+  told_sound i j b range block step is inside sound = elim (cases_Bool (is_inner_node block)) [
+    | inl inner ↦ told_inner one (items_of_visit size decoded image) size nr image i j b range block step is inside sound inner
+    | inr leaf ↦
+        let all : entry_count size block - 0 ≡ entry_count size block = omega arith in
+        let kept = filter (λ (e : Entry). is_in_range range e.key) (node_entries_of size block) in
+        rw (step, leaf, all)
+        (flat_map-map (told one saved) entry kept
+        ∙ (flat_map_single (item_of decoded) kept
+        ∙ sym (at_leaf (items_of_visit size decoded image) size nr image j b range inside (rw is sound) (rw is leaf) ∙ rw (is, leaf) refl)))
+  ]
+
+  pub saved_pushed : (held : Option (List (List ℕ))) (b : ℕ) (range : Range) (old new : Way) → PushesNode size held b range old new → old.stack.depth < 64
+      → block_at image b ≡ (last_place new.stack).block.0 → is_outside nr b ≡ false → is_damaged size b (last_place new.stack).block.0 ≡ false
+      → saved_on size decoded nr image new ≡ saved_below size decoded nr image (64 - old.stack.depth) range b ++ saved_on size decoded nr image old
+  saved_pushed held b range old new pushes room read inside sound =
+      told_more one saved size old new _ _ pushes.left
+      (told_sound (64 - old.stack.depth) (63 - old.stack.depth) b range (last_place new.stack).block.0 (omega arith) read inside sound)
+
+  -- a step
+  pub saved_entry : (fitting : X → Bool) (key : ℕ) (value : X) (old new : Way) → GivesEntry size decoded fitting key value old new
+      → saved_on size decoded nr image old ≡ (key, value) ∷ saved_on size decoded nr image new
+  saved_entry fitting key value old new gives = rw gives.is (ap (flat_map (told one saved)) gives.left)

@@ -5,28 +5,27 @@ use Rattle.std.specs.Option.{option_map, unwrap_or}
 use Rattle.std.proofs.lemmas.List.{append-nil, length-append, length-drop, map-append, take-append-le, drop-append-le}
 use Rattle.std.proofs.lemmas.List.Sums.{sum_by-append}
 use Rattle.std.proofs.lemmas.Option.{IfSome_then}
-use Rattle.pd_kinds.specs.declared.thin_super.ThinSuper.{ThinSuper}
-use Rattle.pd_kinds.specs.Edge.{is_outside}
+use Rattle.pd_kinds.specs.declared.superblocks.ThinSuper.{ThinSuper}
+use Rattle.pd_kinds.specs.Graph.{is_outside}
 use Rattle.pd_kinds.specs.Meaning.{Mapping, ThinDevice}
 use Rattle.pd_kinds.specs.Node.{Entry}
-use Rattle.pd_kinds.specs.ThinFormat.{mapped_block, mapped_time}
+use Rattle.pd_kinds.specs.ThinFormat.{mapped_block}
 use Rattle.pd_kinds.specs.Trees.{value_of_key}
-use Rattle.pd_kinds.specs.Value.{details_code}
-use Rattle.pd_runs.specs.Places.{runs_from}
-use Rattle.pd_runs.specs.Runs.{FitsRun}
+use Rattle.pd_kinds.specs.Field.{details_code}
+use Rattle.pd_kinds.proofs.KindLemmas.{the_mapping}
+use Rattle.pd_grammar.specs.Lawful.{AreDevices, AreMappings}
+use Rattle.pd_grammar.specs.ThinText.{Part, device_of_part, joined_runs}
+use Rattle.pd_laid.specs.Salvage.{salvaged_entries, salvaged_device, salvaged_mappings, salvage_from}
 use Rattle.pd_value.specs.declared.thin.BlockTime.{BlockTime}
 use Rattle.pd_value.specs.declared.thin.Details.{Details}
 use Rattle.pd_value.specs.declared.thin.Root.{Root}
-use Rattle.pd_laid.specs.Salvage.{salvaged_entries, salvaged_device, salvaged_mappings, salvage_from}
-use Rattle.pd_thin_meaning.specs.declared.joined.Run.{Run}
-use Rattle.pd_thin_meaning.specs.Items.{block_time_of, details_of}
-use Rattle.pd_thin_meaning.specs.Joined.{mapping_of, spelled}
-use Rattle.pd_spells.specs.Lawful.{AreDevices, AreMappings}
-use Rattle.pd_spells.specs.ThinText.{Part, device_of_part, joined_runs}
-use Rattle.pd_tree.specs.Items.{item_of, root_of}
+use Rattle.pd_tree.specs.Cursor.{item_of, root_of}
 use Rattle.pd_tree.specs.Search.{lookup}
-use Rattle.pd_tree.proofs.EntryLemmas.{lookup_entries}
+use Rattle.pd_tree.proofs.TreeLemmas.{lookup_entries}
 use Rattle.pd_tree.proofs.NextLemmas.{if_both}
+use Rattle.pd_meaning_thin.specs.Packed.{runs_from, FitsRun}
+use Rattle.pd_meaning_thin.specs.declared.joined.Run.{Run}
+use Rattle.pd_meaning_thin.specs.Runs.{block_time_of, details_of, mapping_of, spelled}
 use Rattle.pd_salvage.specs.declared.cursor.SavedCursor.{SavedCursor}
 use Rattle.pd_salvage.specs.declared.saved.SavedDevice.{SavedDevice}
 use Rattle.pd_salvage.specs.declared.saving.LastDevice.{LastDevice}
@@ -37,7 +36,7 @@ use Rattle.pd_salvage.specs.Gather.{IsGathered, mappings_of_runs, to_come}
 use Rattle.pd_salvage.specs.Saved.{IsJoined, IsSavedPool, part_of, parts_of, pool_of, runs_of_devices}
 use Rattle.pd_salvage.specs.Saving.{FitLost, FitsDevice, FitsHead, IsSaved, IsSaving, KnowsFrom, SavesDevice, StandsLast, devices_of, entry_of, head_of, lost_details, mappings_at, saved_device, saved_devices, saved_pool}
 
-take_all : {X : Type 0} (xs : List X) → take (length xs) xs ≡ xs
+pub take_all : {X : Type 0} (xs : List X) → take (length xs) xs ≡ xs
 take_all [] = refl
 take_all {X} (x ∷ xs) = ap (λ (ys : List X). x ∷ ys) (take_all xs)
 
@@ -53,18 +52,14 @@ parts_more (e ∷ ds) d runs more number is =
     rw (take-append-le e.runs runs more (omega arith), drop-append-le e.runs runs more (omega arith))
     (ap (λ (ps : List Part). part_of e (take e.runs runs) ∷ ps) (parts_more ds d (drop e.runs runs) more rest is))
 
--- the mappings of a device are those that are given below its root
-abbrev given_mapping : Entry → Mapping
-given_mapping e = record { virtual_block = e.key; data_block = mapped_block e.value; time = mapped_time e.value }
-
-mapping_if : (keeps : Bool) (e : Entry) (items : List (ℕ × BlockTime)) (es : List Entry) → map mapping_of items ≡ map given_mapping es
-    → map mapping_of (cond keeps (item_of block_time_of e ∷ items) items) ≡ map given_mapping (cond keeps (e ∷ es) es)
-mapping_if true e items es same = ap (λ (ms : List Mapping). given_mapping e ∷ ms) same
+mapping_if : (keeps : Bool) (e : Entry) (items : List (ℕ × BlockTime)) (es : List Entry) → map mapping_of items ≡ map the_mapping es
+    → map mapping_of (cond keeps (item_of block_time_of e ∷ items) items) ≡ map the_mapping (cond keeps (e ∷ es) es)
+mapping_if true e items es same = ap (λ (ms : List Mapping). the_mapping e ∷ ms) same
 mapping_if false e items es same = same
 
 pub mappings_same : (blocks : ℕ) (es : List Entry)
     → map mapping_of (filter (λ (item : ℕ × BlockTime). nat_lt item.1.block blocks) (map (item_of block_time_of) es))
-    ≡ map given_mapping (filter (λ (e : Entry). nat_lt (mapped_block e.value) blocks) es)
+    ≡ map the_mapping (filter (λ (e : Entry). nat_lt (mapped_block e.value) blocks) es)
 mappings_same blocks [] = refl
 mappings_same blocks (e ∷ es) = mapping_if (nat_lt (mapped_block e.value) blocks) e _ _ (mappings_same blocks es)
 

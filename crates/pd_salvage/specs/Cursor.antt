@@ -2,10 +2,8 @@
 use Rattle.std.specs.Prelude.{ℕ, ◌+◌, List, ◌++◌}
 use Rattle.pd_tree.specs.Cursor.{root_left, root_number}
 use Rattle.pd_salvage.specs.declared.cursor.SavedCursor.{SavedCursor}
-use Rattle.pd_salvage.specs.Ascending.{ascending_from}
-use Rattle.pd_salvage.specs.Range.{all_keys, saved_below}
-use Rattle.pd_salvage.specs.Known.{KnowsUndamaged}
-use Rattle.pd_salvage.specs.Way.{saved_on, way_number}
+use Rattle.pd_salvage.specs.Range.{ascending_from, all_keys, saved_below}
+use Rattle.pd_salvage.specs.Way.{KnowsUndamaged, saved_on, way_number}
 
 -- the entries that are left
 abbrev pub saved_left : {V X : Type 0} → ℕ → (ℕ → X) → List (List ℕ) → SavedCursor V → List (ℕ × X)

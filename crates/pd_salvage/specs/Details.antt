@@ -2,12 +2,12 @@
 use Rattle.std.specs.Prelude.{◌≡◌, ℕ, ◌<◌, ◌≤◌, List, [], ◌∷◌, ◌++◌, Option, Some, None}
 use Rattle.std.specs.Option.{unwrap_or}
 use Rattle.pd_value.specs.declared.thin.Details.{Details}
-use Rattle.pd_thin_meaning.specs.Items.{details_of}
 use Rattle.pd_tree.specs.Search.{lookup}
+use Rattle.pd_meaning_thin.specs.Runs.{details_of}
 use Rattle.pd_salvage.specs.declared.details.SavedDetails.{SavedDetails}
 use Rattle.pd_salvage.specs.declared.details.Known.{Known}
-use Rattle.pd_salvage.specs.declared.details.Known.TheVariants as k
 use Rattle.pd_salvage.specs.Cursor.{saved_left, saved_room}
+use Rattle.pd_salvage.specs.declared.details.Known.TheVariants as k
 
 -- the entry that was read last
 abbrev pub ahead_items : Option (ℕ × Details) → List (ℕ × Details)

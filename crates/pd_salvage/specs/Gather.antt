@@ -2,14 +2,13 @@
 use Rattle.std.specs.Prelude.{◌≡◌, ℕ, ◌≤◌, nat_lt, List, [], ◌++◌, length, map, filter, Option, Some, None, IfSome}
 use Rattle.std.specs.List.{flat_map}
 use Rattle.pd_kinds.specs.Meaning.{Mapping}
+use Rattle.pd_grammar.specs.Lawful.{AreMappings}
+use Rattle.pd_grammar.specs.ThinText.{joined_runs, mappings_of}
 use Rattle.pd_value.specs.declared.thin.BlockTime.{BlockTime}
-use Rattle.pd_thin_meaning.specs.declared.joined.Run.{Run}
-use Rattle.pd_thin_meaning.specs.Items.{block_time_of}
-use Rattle.pd_thin_meaning.specs.Joined.{mapping_of, spelled}
-use Rattle.pd_spells.specs.Lawful.{AreMappings}
-use Rattle.pd_spells.specs.ThinText.{joined_runs, mappings_of}
+use Rattle.pd_meaning_thin.specs.declared.joined.Run.{Run}
+use Rattle.pd_meaning_thin.specs.Runs.{block_time_of, mapping_of, spelled}
 use Rattle.pd_salvage.specs.declared.cursor.SavedCursor.{SavedCursor}
-use Rattle.pd_salvage.specs.declared.gather.Gathering.{Gathering}
+use Rattle.pd_salvage.specs.declared.joined.Gathering.{Gathering}
 use Rattle.pd_salvage.specs.declared.joined.Joining.{Joining}
 use Rattle.pd_salvage.specs.Cursor.{saved_left}
 

@@ -1,13 +1,8 @@
-pub mod Range
 pub mod Way
-pub mod Known
-pub mod Steps
-pub mod Ascending
-pub mod Cursor
-pub mod Saved
+pub mod Range
 pub mod SavedShape
-pub mod PackedPiece
-pub mod Faults
+pub mod Saved
+pub mod Cursor
 pub mod Details
 pub mod Gather
 pub mod Saving

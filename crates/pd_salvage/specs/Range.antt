@@ -1,11 +1,11 @@
 -- The keys that are wanted of a node, and what is given below it.
-use Rattle.std.specs.Prelude.{ℕ, ◌^◌, Bool, not, nat_lt, ◌&&◌, List, map}
+-- Entries whose keys ascend.
+use Rattle.std.specs.Prelude.{ℕ, ◌^◌, Bool, not, nat_lt, ◌&&◌, List, map, ◌≡◌, ◌+◌, if◌then◌else◌, [], ◌∷◌, Option, Some, None}
 use Rattle.std.specs.List.{flat_map}
-use Rattle.pd_kinds.specs.Edge.{is_outside}
-use Rattle.pd_laid.specs.Salvage.{child_low, child_high}
-use Rattle.pd_laid.specs.Visits.{Visit, entries_of_visit, visits}
-use Rattle.pd_tree.specs.Items.{item_of}
-use Rattle.pd_salvage.specs.declared.range.Range.{Range}
+use Rattle.pd_kinds.specs.Graph.{is_outside}
+use Rattle.pd_laid.specs.Salvage.{child_low, child_high, Visit, entries_of_visit, visits}
+use Rattle.pd_tree.specs.Cursor.{item_of}
+use Rattle.pd_salvage.specs.declared.way.Range.{Range}
 
 -- all keys
 abbrev pub all_keys : Range
@@ -33,3 +33,14 @@ is_wanted nr b range = not (is_outside nr b) && nat_lt range.low range.high
 -- whether a key is wanted
 abbrev pub is_in_range : Range → ℕ → Bool
 is_in_range range key = not (nat_lt key range.low) && nat_lt key range.high
+
+-- the entries without those whose keys are below this number, or not above that of an entry before that is kept
+unfoldable pub ascending_from : {X : Type 0} → ℕ → List (ℕ × X) → List (ℕ × X)
+ascending_from least [] = []
+ascending_from least (item ∷ items) =
+    if nat_lt item.0 least then ascending_from least items else item ∷ ascending_from (item.0 + 1) items
+
+-- an answer is the first of what was left from this key on, and none where there was none
+abbrev pub IsNextFrom : {X : Type 0} → ℕ → Option (ℕ × X) → List (ℕ × X) → List (ℕ × X) → Type 0
+IsNextFrom least None old new = (ascending_from least old ≡ []) × (new ≡ [])
+IsNextFrom least (Some item) old new = ascending_from least old ≡ item ∷ ascending_from (item.0 + 1) new

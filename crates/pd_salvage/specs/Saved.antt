@@ -1,13 +1,17 @@
 -- What was saved of a pool.
-use Rattle.std.specs.Prelude.{◌≡◌, ℕ, List, [], ◌∷◌, length, map, take, drop}
+-- How a salvage ends that has no answer.
+use Rattle.std.specs.Prelude.{◌≡◌, ℕ, List, [], ◌∷◌, length, map, take, drop, ◌≤◌, Result, Ok, Err}
 use Rattle.std.specs.List.{AllByRecursion, flat_map, sum_by}
 use Rattle.pd_kinds.specs.Meaning.{ThinPool}
-use Rattle.pd_thin_meaning.specs.declared.joined.Run.{Run}
-use Rattle.pd_thin_meaning.specs.Joined.{spelled}
-use Rattle.pd_spells.specs.Lawful.{IsLawfulPool}
-use Rattle.pd_spells.specs.ThinText.{Part, device_of_part, joined_runs, mappings_of}
+use Rattle.pd_kinds.specs.Objects.{Rose}
+use Rattle.pd_grammar.specs.Lawful.{IsLawfulPool}
+use Rattle.pd_grammar.specs.ThinText.{Part, device_of_part, joined_runs, mappings_of}
+use Rattle.pd_meaning_thin.specs.declared.joined.Run.{Run}
+use Rattle.pd_meaning_thin.specs.Runs.{spelled}
 use Rattle.pd_salvage.specs.declared.saved.SavedDevice.{SavedDevice}
 use Rattle.pd_salvage.specs.declared.saved.SavedHead.{SavedHead}
+use Rattle.pd_salvage.specs.declared.saved.SalvageFault.{SalvageFault}
+use Rattle.pd_salvage.specs.declared.saved.SalvageFault.TheVariants as f
 
 -- a pool that was saved: its head, its devices, and the runs of all devices, those of the first device first
 pub record SavedPool : Type 0 where
@@ -64,3 +68,9 @@ pub record IsSavedPool (saved : SavedPool) : Type 0 where
   pub lawful : IsLawfulPool (pool_of saved)
   pub joined : AllByRecursion IsJoined (parts_of saved.devices saved.runs)
   pub number : runs_of_devices saved.devices ≡ length saved.runs
+
+-- the device's count of faults rose where the call says that the device failed, and else stayed
+abbrev pub CountsSalvage : {R : Type 0} → Result R SalvageFault → ℕ → ℕ → Type 0
+CountsSalvage (Ok answer) old new = new ≡ old
+CountsSalvage (Err f.Memory) old new = new ≡ old
+CountsSalvage (Err f.Device) old new = Rose old new × (old ≤ new)

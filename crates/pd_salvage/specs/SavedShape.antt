@@ -1,13 +1,14 @@
 -- A pool that is held in memory with the leaves that its devices share, and the shape that it is.
-use Rattle.std.specs.Prelude.{◌≡◌, ℕ, List, [], ◌∷◌, length, map, take, drop, sum_by}
+-- A piece in a word.
+use Rattle.std.specs.Prelude.{◌≡◌, ℕ, List, [], ◌∷◌, length, map, take, drop, sum_by, ◌/◌, ◌%◌, ◌==◌, if◌then◌else◌}
 use Rattle.std.specs.List.{AllByRecursion}
+use Rattle.pd_grammar.specs.Lawful.{IsLawfulPool}
+use Rattle.pd_grammar.specs.ThinText.{joined_runs}
+use Rattle.pd_grammar.specs.ThinText as text
 use Rattle.pd_laid.specs.Shape.{IsShape, ThinShape, pool_of}
-use Rattle.pd_shapes.specs.SharedText.{PartPiece, own_runs, used_leaf, SharedPart, device_of_part, mappings_of_runs}
-use Rattle.pd_spells.specs.Lawful.{IsLawfulPool}
-use Rattle.pd_spells.specs.ThinText as text
-use Rattle.pd_spells.specs.ThinText.{joined_runs}
-use Rattle.pd_thin_meaning.specs.declared.joined.Run.{Run}
-use Rattle.pd_thin_meaning.specs.Joined.{spelled}
+use Rattle.pd_laid.specs.PoolText.{PartPiece, own_runs, used_leaf, SharedPart, device_of_part, mappings_of_runs}
+use Rattle.pd_meaning_thin.specs.declared.joined.Run.{Run}
+use Rattle.pd_meaning_thin.specs.Runs.{spelled}
 use Rattle.pd_salvage.specs.declared.saved.SavedHead.{SavedHead}
 use Rattle.pd_salvage.specs.Saved.{head_at}
 use Rattle.pd_salvage.specs.declared.saved_shape.SavedLeaf.{SavedLeaf}
@@ -115,3 +116,7 @@ pub record IsSavedShape (h : HeldShape) : Type 0 where
   pub leaf_number : sum_by (λ (leaf : SavedLeaf). leaf.runs) h.leaves ≡ length h.leaf_runs
   pub piece_number : sum_by (λ (d : ShapedDevice). d.pieces) h.devices ≡ length h.pieces
   pub number : runs_of_pieces h.pieces ≡ length h.runs
+
+-- the number is half of it, and its lowest bit says whether it is that of a shared leaf
+abbrev pub piece_in : ℕ → SavedPiece
+piece_in word = if word % 2 == 0 then Own (word / 2) else Shared (word / 2)

@@ -1,22 +1,21 @@
 -- A pool that is being saved.
 use Rattle.std.specs.Prelude.{◌≡◌, ℕ, ◌+◌, ◌^◌, ◌<◌, ◌≤◌, not, List, [], ◌∷◌, ◌++◌, length, map, filter, nat_lt, Option, None, IfSome}
 use Rattle.std.specs.List.{All, AllByRecursion}
-use Rattle.pd_kinds.specs.declared.thin_super.ThinSuper.{ThinSuper}
-use Rattle.pd_kinds.specs.Edge.{is_outside}
+use Rattle.pd_kinds.specs.declared.superblocks.ThinSuper.{ThinSuper}
+use Rattle.pd_kinds.specs.Graph.{is_outside}
 use Rattle.pd_kinds.specs.Meaning.{Mapping, ThinDevice}
 use Rattle.pd_kinds.specs.Node.{Entry}
-use Rattle.pd_runs.specs.Places.{IsEnd}
+use Rattle.pd_grammar.specs.Lawful.{AreDevices}
+use Rattle.pd_grammar.specs.ThinText.{device_of_part}
+use Rattle.pd_laid.specs.Salvage.{salvaged_entries, salvaged_device}
 use Rattle.pd_value.specs.declared.thin.BlockTime.{BlockTime}
 use Rattle.pd_value.specs.declared.thin.Details.{Details}
 use Rattle.pd_value.specs.declared.thin.Root.{Root}
-use Rattle.pd_laid.specs.Salvage.{salvaged_entries, salvaged_device}
-use Rattle.pd_thin_meaning.specs.declared.joined.Run.{Run}
-use Rattle.pd_thin_meaning.specs.Items.{block_time_of, details_of}
-use Rattle.pd_thin_meaning.specs.Joined.{mapping_of}
-use Rattle.pd_spells.specs.Lawful.{AreDevices}
-use Rattle.pd_spells.specs.ThinText.{device_of_part}
-use Rattle.pd_tree.specs.Items.{item_of, root_of}
+use Rattle.pd_tree.specs.Cursor.{item_of, root_of}
 use Rattle.pd_tree.specs.Search.{lookup}
+use Rattle.pd_meaning_thin.specs.Packed.{IsEnd}
+use Rattle.pd_meaning_thin.specs.declared.joined.Run.{Run}
+use Rattle.pd_meaning_thin.specs.Runs.{block_time_of, details_of, mapping_of}
 use Rattle.pd_salvage.specs.declared.saved.SavedDevice.{SavedDevice}
 use Rattle.pd_salvage.specs.declared.saved.SavedHead.{SavedHead}
 use Rattle.pd_salvage.specs.declared.saving.LastDevice.{LastDevice}

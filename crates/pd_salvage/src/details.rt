@@ -1,4 +1,4 @@
-//! The details of devices, asked by ascending id.
+//! The details of devices, asked by ascending id (`thin_repair`, `thin_shrink`).
 
 ghost use Rattle.std.specs.Prelude.{◌≡◌, ◌+◌};
 ghost use Rattle.std.specs.Option.{ForSome};
@@ -30,17 +30,18 @@ pub struct SavedDetails {
 }
 
 impl SavedDetails {
-    ghost use Rattle.std.specs.Prelude.{◌≡◌, ℕ, ◌+◌, ◌^◌, ◌<◌, ◌≤◌, List, map, IfOk, IfSome};
+    ghost use Rattle.std.specs.Prelude.{◌≡◌, ℕ, ◌≤◌, List, map, IfOk, IfSome};
     ghost use Rattle.pd_kinds.specs.Objects.{CountsFault};
     ghost use Rattle.pd_image.specs.Device.{IsAttached, OnlyReads};
     ghost use Rattle.pd_laid.specs.Salvage.{salvaged_entries};
-    ghost use Rattle.pd_thin_meaning.specs.Items.{details_of};
-    ghost use Rattle.pd_tree.specs.Items.{item_of};
+    ghost use Rattle.pd_meaning_thin.specs.Runs.{details_of};
+    ghost use Rattle.pd_tree.specs.Cursor.{item_of};
     ghost use Rattle.pd_salvage.specs.Details.{details_left, details_room, IsFound, IsFoundOr, IsKnown};
 
     /// Those of the details tree with this root, of a pool with so many metadata blocks.
     pub fn start(alloc: Global, nr: u64, root: u64) -> Result<SavedDetails, AllocError>
-        ensures left { (image : List (List ℕ)) → IfOk result (λ details. details_left image details ≡ map (item_of details_of) (salvaged_entries 24 nr image root)) }
+        ensures left { (image : List (List ℕ)) → IfOk result
+            (λ details. details_left image details ≡ map (item_of details_of) (salvaged_entries 24 nr image root)) }
         ensures room { IfOk result (λ details. details_room details ≡ nr) }
     {
         let entries = SavedCursor::start(alloc, nr, root)?;
@@ -58,7 +59,8 @@ impl SavedDetails {
     ) -> Result<Option<Details>, Failed>
         requires attached { IsAttached (D.state dev.old) }
         requires within { details_room self.old ≤ (D.state dev.old).blocks }
-        ensures found { IfOk result (λ found. IfSome (D.state dev.old).held (λ image. IsFound id found (details_left image self.old) (details_left image self.new))) }
+        ensures found { IfOk result (λ found. IfSome (D.state dev.old).held
+            (λ image. IsFound id found (details_left image self.old) (details_left image self.new))) }
         ensures room { details_room self.new ≡ details_room self.old }
         ensures kept { OnlyReads (D.state dev.old) (D.state dev.new) }
         ensures faults { CountsFault result (D.state dev.old).faults (D.state dev.new).faults }
@@ -85,7 +87,8 @@ impl SavedDetails {
     ) -> Result<Details, Failed>
         requires attached { IsAttached (D.state dev.old) }
         requires within { details_room self.old ≤ (D.state dev.old).blocks }
-        ensures found { IfOk result (λ details. IfSome (D.state dev.old).held (λ image. IsFoundOr lost id details (details_left image self.old) (details_left image self.new))) }
+        ensures found { IfOk result (λ details. IfSome (D.state dev.old).held
+            (λ image. IsFoundOr lost id details (details_left image self.old) (details_left image self.new))) }
         ensures room { details_room self.new ≡ details_room self.old }
         ensures kept { OnlyReads (D.state dev.old) (D.state dev.new) }
         ensures faults { CountsFault result (D.state dev.old).faults (D.state dev.new).faults }

@@ -1,9 +1,12 @@
-//! What was saved of a pool.
+//! What was saved of a pool (`thin_repair`, `thin_shrink`).
 
 ghost use Rattle.std.specs.Prelude.{◌≡◌};
+ghost use Rattle.pd_salvage.specs.declared.saved.SalvageFault.TheVariants.{Memory, Device};
 
-use pd_runs::PackedRuns;
+use pd_image::Failed;
+use pd_meaning_thin::PackedRuns;
 use pd_value::Details;
+use std::alloc::{AllocError, AllocFailed};
 use std::marker::Model;
 
 /// What the superblock says of a pool.
@@ -105,5 +108,40 @@ impl Salvage {
             devices,
             runs,
         }
+    }
+}
+
+// Why a salvage has no answer (`thin_repair`, `thin_shrink`, `cache_repair`).
+
+/// Why there is no answer.
+#[derive(Clone, Copy, Debug, PartialEq, Eq)]
+pub enum SalvageFault {
+    /// Memory wasn't found.
+    Memory,
+    /// A read of the device failed.
+    Device,
+}
+
+impl From<AllocError> for SalvageFault {
+    ghost from_gives = { λ _ fault. fault ≡ Memory };
+
+    fn from(_error: AllocError) -> SalvageFault {
+        SalvageFault::Memory
+    }
+}
+
+impl<T: Drop> From<AllocFailed<T>> for SalvageFault {
+    ghost from_gives = { λ _ fault. fault ≡ Memory };
+
+    fn from(_failed: AllocFailed<T>) -> SalvageFault {
+        SalvageFault::Memory
+    }
+}
+
+impl From<Failed> for SalvageFault {
+    ghost from_gives = { λ _ fault. fault ≡ Device };
+
+    fn from(_failed: Failed) -> SalvageFault {
+        SalvageFault::Device
     }
 }

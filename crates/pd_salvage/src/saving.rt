@@ -1,19 +1,20 @@
-//! A pool that is being saved.
+//! A pool that is being saved (`thin_repair`, `thin_shrink`).
 
-ghost use Rattle.std.specs.Prelude.{◌≡◌, ◌<◌, ◌++◌, ◌∷◌, [], not, OnOk};
+ghost use Rattle.std.specs.Prelude.{◌≡◌, ◌<◌, ◌++◌, ◌∷◌, [], not, OnOk, ◌^◌, ◌≤◌, IfOk, IfSome};
 ghost use Rattle.std.specs.List.{All};
-ghost use Rattle.pd_kinds.specs.Edge.{is_outside};
+ghost use Rattle.pd_kinds.specs.Graph.{is_outside};
+ghost use Rattle.pd_laid.specs.Salvage.{salvage_from};
+ghost use Rattle.pd_image.specs.Device.{IsAttached, OnlyReads};
 ghost use Rattle.pd_salvage.specs.Saving.{FitLost, FitsDevice, FitsHead, head_of, lost_details, saved_device};
+ghost use Rattle.pd_salvage.specs.Saved.{CountsSalvage, pool_of};
 
 use crate::cursor::SavedCursor;
 use crate::details::SavedDetails;
-use crate::fault::SalvageFault;
-use crate::gather::gather;
-use crate::repeat::repeat_runs;
-use crate::saved::{Salvage, SavedDevice, SavedHead};
+use crate::joined::{gather, repeat_runs};
+use crate::saved::{Salvage, SalvageFault, SavedDevice, SavedHead};
 use pd_image::Device;
 use pd_kinds::ThinSuper;
-use pd_runs::{PackedRuns, RunPlace};
+use pd_meaning_thin::{PackedRuns, RunPlace};
 use pd_value::{BlockTime, Details, Root};
 use std::alloc::{AllocError, Global};
 
@@ -44,10 +45,10 @@ impl Saving {
     ghost use Rattle.std.specs.Prelude.{◌≡◌, ◌^◌, ◌≤◌, IfOk, OnOk, IfSome};
     ghost use Rattle.pd_image.specs.Device.{IsAttached, OnlyReads};
     ghost use Rattle.pd_laid.specs.Salvage.{salvage_from};
-    ghost use Rattle.pd_salvage.specs.Faults.{CountsSalvage};
+    ghost use Rattle.pd_salvage.specs.Saved.{CountsSalvage};
     ghost use Rattle.pd_salvage.specs.Saved.{pool_of};
     ghost use Rattle.std.specs.List.{AllByRecursion};
-    ghost use Rattle.pd_runs.specs.Runs.{FitsRun};
+    ghost use Rattle.pd_meaning_thin.specs.Packed.{FitsRun};
     ghost use Rattle.pd_salvage.specs.Gather.{IsGathered};
     ghost use Rattle.pd_salvage.specs.Saving.{HasReadyCursors, IsSaved, IsStarted, KnowsLast, SavesDevice, mappings_at, saved_pool};
 
@@ -78,7 +79,8 @@ impl Saving {
         requires few { self.old.s.data_map.blocks ≤ 2 ^ 40 }
         requires started { IsStarted self.old.s self.old }
         ensures sound { OnOk result (IsSaved self.new.s.data_map.blocks self.new.devices.items self.new.runs) }
-        ensures saved { OnOk result (IfSome (D.state dev.old).held (λ image. pool_of (saved_pool self.new) ≡ salvage_from self.old.s image)) }
+        ensures saved { OnOk result (IfSome (D.state dev.old).held
+            (λ image. pool_of (saved_pool self.new) ≡ salvage_from self.old.s image)) }
         ensures same { self.new.s ≡ self.old.s }
         ensures kept { OnlyReads (D.state dev.old) (D.state dev.new) }
         ensures faults { CountsSalvage result (D.state dev.old).faults (D.state dev.new).faults }
@@ -99,7 +101,8 @@ impl Saving {
         requires few { self.old.s.data_map.blocks ≤ 2 ^ 40 }
         requires last { KnowsLast (D.state dev.old).held self.old }
         requires fits { AllByRecursion FitsRun self.old.runs }
-        ensures gathered { IfOk result (λ mapped. IsGathered self.old.s.data_map.blocks 0 mapped (D.state dev.old).held (λ image. mappings_at self.old.s image root) self.old.runs self.new.runs) }
+        ensures gathered { IfOk result (λ mapped. IsGathered self.old.s.data_map.blocks 0 mapped (D.state dev.old).held
+            (λ image. mappings_at self.old.s image root) self.old.runs self.new.runs) }
         ensures same { self.new ≡ record self.old { mappings = self.new.mappings; runs = self.new.runs } }
         ensures kept { OnlyReads (D.state dev.old) (D.state dev.new) }
         ensures faults { CountsSalvage result (D.state dev.old).faults (D.state dev.new).faults }
@@ -257,4 +260,31 @@ fn add_device(
     };
     devices.push(SavedDevice { id, details, runs })?;
     Ok(())
+}
+
+// The salvage of a pool (`thin_repair`, `thin_shrink`).
+
+/// All that can be saved of the pool with this superblock.
+///
+/// It takes the memory of three cursors over trees, 40 bytes a device, and for a run of mappings some 4 and at most 35.
+/// A device with the root of the device before it gets that one's runs once more, and no block is read for it. While they
+/// are put there, they take that memory twice.
+///
+/// Fails with `Device` where a read failed, and with `Memory` where that memory wasn't found.
+pub fn salvage<D: Device>(
+    alloc: Global,
+    dev: &mut D,
+    s: &ThinSuper,
+) -> Result<Salvage, SalvageFault>
+    requires attached { IsAttached (D.state dev.old) }
+    requires within { s.now.meta_map.blocks ≤ (D.state dev.old).blocks }
+    requires few { s.now.meta_map.blocks ≤ 4161600 }
+    requires data { s.now.data_map.blocks ≤ 2 ^ 40 }
+    ensures saved { IfOk result (λ saved. IfSome (D.state dev.old).held (λ image. pool_of saved ≡ salvage_from s.now image)) }
+    ensures kept { OnlyReads (D.state dev.old) (D.state dev.new) }
+    ensures faults { CountsSalvage result (D.state dev.old).faults (D.state dev.new).faults }
+{
+    let mut saving = Saving::start(alloc, s)?;
+    saving.save_all(dev)?;
+    Ok(saving.saved())
 }

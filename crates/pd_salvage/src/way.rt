@@ -1,14 +1,14 @@
-//! The nodes on the way from the root of a tree to what comes next.
+//! The nodes on the way from the root of a tree to what comes next (`thin_repair`, `thin_shrink`, `cache_repair`).
 
-ghost use Rattle.std.specs.Prelude.{◌≡◌, ◌≤◌, not};
+ghost use Rattle.std.specs.Prelude.{◌≡◌, ◌≤◌, not, ◌<◌};
 ghost use Rattle.std.specs.Vec.{vec_len};
+ghost use Rattle.pd_kinds.specs.Node.{entry_count};
 ghost use Rattle.pd_laid.specs.Salvage.{is_damaged};
-ghost use Rattle.pd_salvage.specs.Range.{is_wanted};
+ghost use Rattle.pd_salvage.specs.Range.{is_wanted, child_range, is_in_range};
 
-use crate::range::Range;
 use pd_image::{Device, Failed};
 use pd_kinds::Block;
-use pd_node::node_rules;
+use pd_node::{entries, key, node_rules};
 use pd_tree::{LEVELS, Stack, Step};
 use pd_value::Value;
 use std::alloc::{AllocError, Global};
@@ -50,8 +50,8 @@ impl Way {
     ghost use Rattle.pd_image.specs.Device.{IsAttached, OnlyReads};
     ghost use Rattle.pd_tree.specs.Stack.{last_place};
     ghost use Rattle.pd_salvage.specs.Way.{range_at};
-    ghost use Rattle.pd_salvage.specs.Known.{Forgets, KeepsKnown, KeepsNode, KnowsNothing, number_at};
-    ghost use Rattle.pd_salvage.specs.Steps.{PopsNode, PushesNode, StepsOnWay, TakesAgain};
+    ghost use Rattle.pd_salvage.specs.Way.{Forgets, KeepsKnown, KeepsNode, KnowsNothing, number_at};
+    ghost use Rattle.pd_salvage.specs.Way.{PopsNode, PushesNode, StepsOnWay, TakesAgain};
 
     /// No node, and memory reserved for `LEVELS` of them.
     ///
@@ -236,4 +236,44 @@ pub fn is_sound<V: Value>(block: &Block, place: u64) -> bool
     ensures { result ≡ not (is_damaged V.SIZE place block.now.0) }
 {
     node_rules::<V>(block, place).is_empty()
+}
+
+// The keys that are wanted of a node (`thin_repair`, `thin_shrink`, `cache_repair`).
+
+/// The keys that are wanted of a node.
+#[derive(Clone, Copy)]
+pub struct Range {
+    /// The least key.
+    pub low: u64,
+    /// The end of the keys, without which they are: 2^64 at the most.
+    pub high: u128,
+}
+
+impl Range {
+    /// Whether the key is wanted.
+    pub fn has(&self, key: u64) -> bool
+        ensures { result ≡ is_in_range self.now key }
+    {
+        (key >= self.low) & ((key as u128) < self.high)
+    }
+
+    /// The part that is wanted of the node's child `i`.
+    pub fn of_child<V: Value>(&self, node: &Block, i: usize) -> Range
+        requires { i < entry_count V.SIZE node.now.0 }
+        ensures { result ≡ child_range V.SIZE node.now.0 self.now i }
+    {
+        let low = key::<V>(node, i).max(self.low);
+        if entries::<V>(node) - i == 1 {
+            Range {
+                low,
+                high: self.high,
+            }
+        } else {
+            let next = key::<V>(node, i + 1) as u128;
+            Range {
+                low,
+                high: next.min(self.high),
+            }
+        }
+    }
 }

@@ -3,23 +3,20 @@ use Rattle.std.proofs.Common.{◌≡◌, ℕ, zero, suc, ◌+◌, ◌≤◌, Lis
 use Rattle.std.proofs.lemmas.List.{get_or-set_other, length-append, length-drop, map-append, take-append-le, drop-append-le}
 use Rattle.std.proofs.lemmas.List.Sums.{sum_by-append}
 use Rattle.pd_laid.specs.Shape.{ShapeDevice}
-use Rattle.pd_shapes.specs.SharedText.{PartPiece, SharedPart, device_of_part}
-use Rattle.pd_thin_meaning.specs.declared.joined.Run.{Run}
+use Rattle.pd_laid.specs.PoolText.{PartPiece, SharedPart, device_of_part}
+use Rattle.pd_meaning_thin.specs.declared.joined.Run.{Run}
 use Rattle.pd_salvage.specs.declared.saved_shape.SavedPiece.{SavedPiece}
 use Rattle.pd_salvage.specs.declared.saved_shape.ShapedDevice.{ShapedDevice}
 use Rattle.pd_salvage.specs.SavedShape.{IsPartJoined, device_part, device_parts, piece_part, piece_parts, runs_of_piece, runs_of_pieces}
-use Rattle.pd_salvage_shapes.specs.declared.devices.ShapedDevices.{ShapedDevices}
-use Rattle.pd_salvage_shapes.specs.declared.note.Note.{Note}
+use Rattle.pd_salvage.proofs.SavingLemmas.{take_all}
+use Rattle.pd_salvage_shapes.specs.declared.pieces.ShapedDevices.{ShapedDevices}
+use Rattle.pd_salvage_shapes.specs.declared.note.LeafNote.{LeafNote}
 use Rattle.pd_salvage_shapes.specs.declared.tops.Top.{Top}
 use Rattle.pd_salvage_shapes.specs.declared.visiting.Seen.{Seen}
-use Rattle.pd_salvage_shapes.specs.Devices.{AddsDevice, AreShaped, shaped_device, shaped_devices}
+use Rattle.pd_salvage_shapes.specs.SeenShape.{AddsDevice, AreShaped, shaped_device, shaped_devices}
 use Rattle.pd_salvage_shapes.specs.Pieces.{AreNumbers}
 use Rattle.pd_salvage_shapes.proofs.MetPieces.{sum_more}
 use Rattle.pd_salvage_shapes.proofs.VisitingLemmas.{all_more}
-
-take_all : {X : Type 0} (xs : List X) → take (length xs) xs ≡ xs
-take_all [] = refl
-take_all {X} (x ∷ xs) = ap (λ (ys : List X). x ∷ ys) (take_all xs)
 
 -- more runs behind change nothing of pieces that have theirs
 parts_same : (ps : List SavedPiece) (runs more : List Run) → runs_of_pieces ps ≤ length runs → piece_parts ps (runs ++ more) ≡ piece_parts ps runs
@@ -61,14 +58,14 @@ device_more (e ∷ ds) d ps more runs others count number is =
     (ap (λ (qs : List SharedPart). device_part e (piece_parts first runs) ∷ qs) (device_more ds d (drop e.pieces ps) more (drop (runs_of_pieces first) runs) others count_rest number_rest is))
 
 -- devices of two lists, with one more of each
-pub shaped_more : (ones : List ℕ) (notes : List Note) (ts : List Top) (ds : List Seen) (t : Top) (d : Seen) → length ts ≡ length ds
+pub shaped_more : (ones : List ℕ) (notes : List LeafNote) (ts : List Top) (ds : List Seen) (t : Top) (d : Seen) → length ts ≡ length ds
     → shaped_devices ones notes (ts ++ t ∷ []) (ds ++ d ∷ []) ≡ shaped_devices ones notes ts ds ++ shaped_device ones notes t d ∷ []
 shaped_more ones notes [] [] t d same = refl
 shaped_more ones notes [] (e ∷ ds) t d same = absurd (omega arith)
 shaped_more ones notes (u ∷ ts) [] t d same = absurd (omega arith)
 shaped_more ones notes (u ∷ ts) (e ∷ ds) t d same = ap (λ (xs : List ShapeDevice). shaped_device ones notes u e ∷ xs) (shaped_more ones notes ts ds t d (omega arith))
 
-pub added_shape : (ones : List ℕ) (notes : List Note) (numbers : List ℕ) (ts : List Top) (ds : List Seen) (t : Top) (d : Seen) (old new : ShapedDevices) → length ts ≡ length ds → AreNumbers ones numbers
+pub added_shape : (ones : List ℕ) (notes : List LeafNote) (numbers : List ℕ) (ts : List Top) (ds : List Seen) (t : Top) (d : Seen) (old new : ShapedDevices) → length ts ≡ length ds → AreNumbers ones numbers
     → AreShaped ones notes ts ds old → AddsDevice notes numbers t d old new → AreShaped ones notes (ts ++ t ∷ []) (ds ++ d ∷ []) new
 added_shape ones notes numbers ts ds t d old new same are shaped adds =
     let has = adds.takes.has ones are in
@@ -99,7 +96,7 @@ added_shape ones notes numbers ts ds t d old new same are shaped adds =
     }
 
 -- no device
-pub none_shaped : (ones : List ℕ) (notes : List Note) (shaped : ShapedDevices) → shaped.devices.items ≡ [] → shaped.piecing.pieces.items ≡ [] → shaped.piecing.runs ≡ [] → AreShaped ones notes [] [] shaped
+pub none_shaped : (ones : List ℕ) (notes : List LeafNote) (shaped : ShapedDevices) → shaped.devices.items ≡ [] → shaped.piecing.pieces.items ≡ [] → shaped.piecing.runs ≡ [] → AreShaped ones notes [] [] shaped
 none_shaped ones notes shaped devices pieces runs = record {
   means = rw devices refl;
   joined = rw devices tt;

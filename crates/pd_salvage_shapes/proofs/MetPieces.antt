@@ -5,32 +5,25 @@ use Rattle.std.specs.List.{AllByRecursion}
 use Rattle.std.proofs.lemmas.List.{append-nil, length-append, length-drop, map-append, take-append-le, drop-append-le}
 use Rattle.std.proofs.lemmas.List.Sums.{sum_by-append}
 use Rattle.pd_kinds.specs.Meaning.{Mapping}
-use Rattle.pd_laid.specs.Shape.{Piece, own, shared}
-use Rattle.pd_shapes.specs.ImageShape.{with_own}
-use Rattle.pd_shapes.specs.SharedText.{PartPiece, piece_of_part, used_leaf}
-use Rattle.pd_spells.specs.ThinText as text
-use Rattle.pd_spells.specs.ThinText.{joined_runs, mappings_of}
-use Rattle.pd_thin_meaning.specs.declared.joined.Run.{Run}
-use Rattle.pd_thin_meaning.specs.Joined.{spelled}
+use Rattle.pd_kinds.proofs.ListLemmas.{all_append}
+use Rattle.pd_grammar.specs.ThinText.{joined_runs, mappings_of}
+use Rattle.pd_grammar.specs.ThinText as text
+use Rattle.pd_laid.specs.Shape.{Piece, own, shared, with_own}
+use Rattle.pd_laid.specs.PoolText.{PartPiece, piece_of_part, used_leaf}
+use Rattle.pd_meaning_thin.specs.declared.joined.Run.{Run}
+use Rattle.pd_meaning_thin.specs.Runs.{spelled}
 use Rattle.pd_salvage.specs.declared.joined.Joining.{Joining}
 use Rattle.pd_salvage.specs.declared.saved_shape.SavedPiece.{SavedPiece}
 use Rattle.pd_salvage.specs.declared.saved_shape.SavedPiece.TheVariants.{Own, Shared}
 use Rattle.pd_salvage.specs.Gather.{IsJoining, Takes, mappings_of_runs}
-use Rattle.pd_salvage.proofs.JoiningLemmas.{runs_more}
+use Rattle.pd_salvage.proofs.GatherLemmas.{runs_more}
 use Rattle.pd_salvage.specs.SavedShape.{IsPieceJoined, piece_part, piece_parts, runs_of_piece, runs_of_pieces}
-use Rattle.pd_salvage_shapes.specs.declared.note.Note.{Note}
+use Rattle.pd_salvage.proofs.SavingLemmas.{take_all}
+use Rattle.pd_salvage_shapes.specs.declared.note.LeafNote.{LeafNote}
 use Rattle.pd_salvage_shapes.specs.declared.pieces.Piecing.{Piecing}
-use Rattle.pd_salvage_shapes.specs.Note.{noted}
-use Rattle.pd_salvage_shapes.specs.Mets.{Met, met_of}
+use Rattle.pd_salvage_shapes.specs.Note.{noted, Met, met_of}
 use Rattle.pd_salvage_shapes.specs.Pieces.{above, EndsOwn, HasPieces, IsIdle, IsPiecing, number_of_leaf, own_piece, pieces_of_mets}
-
-take_all : {X : Type 0} (xs : List X) → take (length xs) xs ≡ xs
-take_all [] = refl
-take_all {X} (x ∷ xs) = ap (λ (ys : List X). x ∷ ys) (take_all xs)
-
-drop_all : {X : Type 0} (xs : List X) → drop (length xs) xs ≡ []
-drop_all [] = refl
-drop_all (x ∷ xs) = drop_all xs
+use Rattle.pd_laws_shapes.proofs.PiecesBack.{own_both}
 
 -- pieces with more of them behind
 pub pieces_more : (ps more : List SavedPiece) (runs others : List Run) → runs_of_pieces ps ≡ length runs → piece_parts (ps ++ more) (runs ++ others) ≡ piece_parts ps runs ++ piece_parts more others
@@ -44,18 +37,6 @@ pieces_more (p ∷ ps) more runs others number =
 
 pub sum_more : (ps more : List SavedPiece) → runs_of_pieces (ps ++ more) ≡ runs_of_pieces ps + runs_of_pieces more
 sum_more ps more = sum_by-append runs_of_piece ps more
-
-all_append : {X : Type 0} (P : X → Type 0) (xs ys : List X) → AllByRecursion P xs → AllByRecursion P ys → AllByRecursion P (xs ++ ys)
-all_append P [] ys first last = last
-all_append P (x ∷ xs) ys first last = (first.0, all_append P xs ys first.1 last)
-
--- mappings before mappings of one's own
-own_own : (ms more : List Mapping) (pieces : List Piece) → with_own ms (with_own more pieces) ≡ with_own (ms ++ more) pieces
-own_own [] more pieces = refl
-own_own (m ∷ ms) [] pieces = ap (λ (xs : List Mapping). with_own (m ∷ xs) pieces) (sym (append-nil ms))
-own_own (m ∷ ms) (n ∷ more) [] = refl
-own_own (m ∷ ms) (n ∷ more) (own others ∷ pieces) = ap (λ (xs : List Mapping). own (m ∷ xs) ∷ pieces) (sym (append_assoc ms (n ∷ more) others))
-own_own (m ∷ ms) (n ∷ more) (shared k ∷ pieces) = refl
 
 -- what is met of one's own, and of a shared leaf
 pieces_own : (ones : List ℕ) (leaf : Option ℕ) (ms : List Mapping) (rest : List Met) → number_of_leaf ones leaf ≡ None → pieces_of_mets ones (met_of leaf ms ++ rest) ≡ with_own ms (pieces_of_mets ones rest)
@@ -139,7 +120,7 @@ module _ (ones : List ℕ) (pieces : List SavedPiece) (runs : List Run) where
           ap (pieces_of_mets ones) (append_assoc done (met_of leaf ms) rest)
           ∙ (is.means (met_of leaf ms ++ rest)
           ∙ ap (λ (ps : List Piece). map piece_of_part (piece_parts is.given is.given_runs) ++ ps)
-          (ap (with_own is.mappings) (pieces_own ones leaf ms rest none) ∙ own_own is.mappings ms (pieces_of_mets ones rest)));
+          (ap (with_own is.mappings) (pieces_own ones leaf ms rest none) ∙ own_both is.mappings ms (pieces_of_mets ones rest)));
     }
 
     -- a shared leaf
@@ -275,7 +256,7 @@ above_some None n is some = absurd (omega arith)
 above_some (Some k) n is some = let same : n - 1 ≡ k = omega arith in rw same refl
 
 -- a note with a number is that of a whole leaf, which has mappings
-pub some_met : (note : Note) (number : ℕ) → (note.full ≡ false → number ≡ 0) → (note.full ≡ true → 1 ≤ length (noted note)) → 1 ≤ number → 1 ≤ length (noted note)
+pub some_met : (note : LeafNote) (number : ℕ) → (note.full ≡ false → number ≡ 0) → (note.full ≡ true → 1 ≤ length (noted note)) → 1 ≤ number → 1 ≤ length (noted note)
 some_met note number part some positive = elim (cases_Bool note.full) [
   | inl full ↦ some full
   | inr own_note ↦ let none = part own_note in absurd (omega arith)

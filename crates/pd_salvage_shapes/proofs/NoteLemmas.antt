@@ -10,18 +10,17 @@ use Rattle.pd_kinds.specs.Layout.{leaf_entries, node_entries_of}
 use Rattle.pd_kinds.specs.Meaning.{Mapping}
 use Rattle.pd_kinds.specs.Node.{Entry, entry_count, is_inner_node, key_at, value_at}
 use Rattle.pd_kinds.specs.ThinFormat.{mapped_block}
+use Rattle.pd_grammar.specs.Lawful.{AreMappings}
 use Rattle.pd_laid.specs.Salvage.{is_damaged}
-use Rattle.pd_spells.specs.Lawful.{AreMappings}
-use Rattle.pd_thin_meaning.specs.declared.joined.Run.{Run}
-use Rattle.pd_salvage.specs.declared.range.Range.{Range}
+use Rattle.pd_value.specs.declared.thin.BlockTime.{BlockTime}
+use Rattle.pd_meaning_thin.specs.declared.joined.Run.{Run}
+use Rattle.pd_meaning_thin.specs.Runs.{block_time_of, mapping_of}
+use Rattle.pd_salvage.specs.declared.way.Range.{Range}
 use Rattle.pd_salvage.specs.Range.{all_keys, is_in_range}
 use Rattle.pd_salvage.proofs.AscendLemmas.{AreAscending, leaf_from, order_holds}
 use Rattle.pd_salvage.specs.Gather.{HasRuns, mappings_of_runs}
-use Rattle.pd_value.specs.declared.thin.BlockTime.{BlockTime}
-use Rattle.pd_thin_meaning.specs.Items.{block_time_of}
-use Rattle.pd_thin_meaning.specs.Joined.{mapping_of}
 use Rattle.pd_salvage_shapes.specs.declared.note.LeafGathering.{LeafGathering}
-use Rattle.pd_salvage_shapes.specs.declared.note.Note.{Note}
+use Rattle.pd_salvage_shapes.specs.declared.note.LeafNote.{LeafNote}
 use Rattle.pd_salvage_shapes.specs.Note.{IsGathered, IsNote, Notes, is_all_of, end_key, first_key, in_keys, mapping_of_entry, noted, saved_at, saved_in}
 
 -- what is saved of entries and of more of them
@@ -147,7 +146,7 @@ last_out range (m ∷ []) some out = elim (cases_lt m.virtual_block range.low) [
 last_out range (m ∷ n ∷ ms) some out = one_out range m (n ∷ ms) (last_out range (n ∷ ms) (omega arith) out)
 
 -- whether a note lies in a range
-module _ (blocks : ℕ) (note : Note) (range : Range) (is : IsNote blocks note) where
+module _ (blocks : ℕ) (note : LeafNote) (range : Range) (is : IsNote blocks note) where
   nothing_noted : note.entries ≡ 0 → noted note ≡ []
   nothing_noted none = no_items (noted note) (let counted = is.counted in omega arith)
     where
@@ -230,7 +229,7 @@ module _ (runs : List Run) (gathering : LeafGathering) (ms : List Mapping) (befo
   pub gathered_mappings : mappings_of_runs runs ≡ ms
   gathered_mappings = rw has.runs_are (sym has.written)
 
-  pub gathered_note : (blocks : ℕ) (note : Note) → note.runs ≡ runs → note.entries ≡ gathering.mapped → note.first ≡ gathering.first → note.end ≡ gathering.end
+  pub gathered_note : (blocks : ℕ) (note : LeafNote) → note.runs ≡ runs → note.entries ≡ gathering.mapped → note.first ≡ gathering.first → note.end ≡ gathering.end
       → (note.full ≡ true → (1 ≤ note.entries) × (note.entries ≤ 252)) → AreMappings blocks 0 ms → IsNote blocks note
   gathered_note blocks note is entries first end sized lawful =
       let mappings : noted note ≡ ms = rw is gathered_mappings in
@@ -298,7 +297,7 @@ module _ (blocks : ℕ) (range : Range) (block : List ℕ) where
         | inr outside ↦ rw outside (omega arith)
       ]
 
-pub part_inside : (blocks place : ℕ) (block : List ℕ) (range : Range) (note : Note) → Notes blocks place block range note → in_keys range (noted note) ≡ noted note
+pub part_inside : (blocks place : ℕ) (block : List ℕ) (range : Range) (note : LeafNote) → Notes blocks place block range note → in_keys range (noted note) ≡ noted note
 part_inside blocks place block range note is = elim (cases_Bool (is_damaged 8 place block)) [
   | inl damaged ↦ let none : noted note ≡ [] = is.mappings ∙ rw damaged refl in rw none refl
   | inr sound ↦ let some : noted note ≡ saved_in blocks range (leaf_entries 8 block) = is.mappings ∙ rw sound refl in rw some (saved_inside blocks range block (leaf_entries 8 block))

@@ -5,30 +5,26 @@ use Rattle.std.proofs.lemmas.Bool.{cases_Bool, cases_lt, ne_eqb, lt-ltb, le-ltb,
 use Rattle.std.proofs.lemmas.List.{length-map, get_or_past}
 use Rattle.std.proofs.lemmas.List.Sums.{sum_by-append}
 use Rattle.pd_kinds.specs.Meaning.{Mapping}
-use Rattle.pd_kinds.specs.ThinSuper.{ThinFields}
+use Rattle.pd_kinds.specs.ThinFormat.{ThinFields}
+use Rattle.pd_grammar.specs.Lawful.{AreDevices, IsLawfulPool}
 use Rattle.pd_laid.specs.Shape.{ArePieces, IsShape, ShapeDevice, device_of, pool_of, uses_of}
-use Rattle.pd_shapes.specs.SharedText.{mappings_of_runs}
-use Rattle.pd_spells.specs.Lawful.{AreDevices, IsLawfulPool}
-use Rattle.pd_thin_meaning.specs.Joined.{spelled}
-use Rattle.pd_image_shapes.proofs.LeafLemmas.{Ascend, at_place, counted_any, filtered_all, filtered_ascend, filtered_few}
+use Rattle.pd_laid.specs.PoolText.{mappings_of_runs}
+use Rattle.pd_meaning_thin.specs.Runs.{spelled}
 use Rattle.pd_salvage.specs.Saving.{FitsHead, head_of}
 use Rattle.pd_salvage.specs.SavedShape.{HeldShape, IsJoined, IsSavedShape, held, held_shape, leaf_parts}
-use Rattle.pd_salvage_shapes.specs.declared.devices.ShapedDevices.{ShapedDevices}
-use Rattle.pd_salvage_shapes.specs.declared.note.Note.{Note}
-use Rattle.pd_salvage_shapes.specs.declared.shared.SharedLeaves.{SharedLeaves}
+use Rattle.pd_salvage_shapes.specs.declared.pieces.ShapedDevices.{ShapedDevices}
+use Rattle.pd_salvage_shapes.specs.declared.note.LeafNote.{LeafNote}
+use Rattle.pd_salvage_shapes.specs.declared.shape.SharedLeaves.{SharedLeaves}
 use Rattle.pd_salvage_shapes.specs.declared.tops.Top.{Top}
 use Rattle.pd_salvage_shapes.specs.declared.visiting.Seen.{Seen}
-use Rattle.pd_salvage_shapes.specs.Devices.{AreShaped, shaped_device, shaped_devices}
-use Rattle.pd_salvage_shapes.specs.Pieces.{AreNumbers, above}
-use Rattle.pd_salvage_shapes.specs.SeenShape.{ones_of, seen_shape, shared_of}
-use Rattle.pd_salvage_shapes.specs.Shared.{IsSharing, is_twice, leaf_maps, leaf_runs, shared_below}
+use Rattle.pd_salvage_shapes.specs.SeenShape.{AreShaped, shaped_device, shaped_devices, ones_of, seen_shape, shared_of, AreUses, all_mets, leaves_of}
+use Rattle.pd_salvage_shapes.specs.Pieces.{AreNumbers, above, IsSharing, is_twice, leaf_maps, leaf_runs, shared_below}
 use Rattle.pd_salvage_shapes.specs.Tops.{AreTops}
-use Rattle.pd_salvage_shapes.specs.Uses.{AreUses, all_mets, leaves_of}
 use Rattle.pd_salvage_shapes.specs.Visiting.{AreNotes, IsSeen, mets_of}
-use Rattle.pd_salvage_shapes.proofs.LeafTable.{IsLeaf, all_stand, leaf_few, leaf_joined, leaf_some, mets_true}
+use Rattle.pd_salvage_shapes.proofs.LeafTable.{IsLeaf, all_stand, leaf_few, leaf_joined, leaf_some, mets_true, leaves_append}
 use Rattle.pd_salvage_shapes.proofs.SharedLemmas.{none_from}
 use Rattle.pd_salvage_shapes.proofs.ShapeLemmas.{mets_are, mets_counted, mets_mean}
-use Rattle.pd_salvage_shapes.proofs.UseLemmas.{leaves_append}
+use Rattle.pd_laws_shapes.proofs.LeafLemmas.{Ascend, at_place, counted_any, filtered_all, filtered_ascend, filtered_few}
 
 -- two tests that agree keep the same
 pub filter_same : (p q : ℕ → Bool) (a n : ℕ) → ((b : ℕ) → a ≤ b → b < a + n → p b ≡ q b) → filter p (range_with_len a n) ≡ filter q (range_with_len a n)
@@ -53,7 +49,7 @@ ones_are blocks leaves uses number are =
     ap (λ (n : ℕ). nat_eq n 2) (are b (omega arith)) ∙ twice_is (count_by (λ c. nat_eq c b) leaves)))
 
 -- the numbers of all blocks
-pub numbers_are : (uses places : List ℕ) (notes : List Note) (s : SharedLeaves) → IsSharing uses places notes s (length uses) → AreNumbers (shared_below uses (length uses)) s.numbers.items
+pub numbers_are : (uses places : List ℕ) (notes : List LeafNote) (s : SharedLeaves) → IsSharing uses places notes s (length uses) → AreNumbers (shared_below uses (length uses)) s.numbers.items
 numbers_are uses places notes s is = λ b. elim (cases_lt b (length uses)) [
   | inl below ↦ is.numbers b below
   | inr past ↦
@@ -61,7 +57,7 @@ numbers_are uses places notes s is = λ b. elim (cases_lt b (length uses)) [
       get_or_past s.numbers.items b 0 (omega arith) ∙ sym (ap above (none_from uses (length uses) b past))
 ]
 
-module _ (fields : ThinFields) (places : List ℕ) (notes : List Note) (tops : List Top) (seen : List Seen) (few : fields.meta_map.blocks ≤ 4161600) (small : fields.data_map.blocks ≤ 2 ^ 40)
+module _ (fields : ThinFields) (places : List ℕ) (notes : List LeafNote) (tops : List Top) (seen : List Seen) (few : fields.meta_map.blocks ≤ 4161600) (small : fields.data_map.blocks ≤ 2 ^ 40)
     (notes_are : AreNotes fields.data_map.blocks places notes) (each : length seen ≡ length tops) (seen_are : AllByRecursion (IsSeen fields.data_map.blocks notes) seen) (tops_are : AreTops 0 tops) where
   abbrev ones : List ℕ
   ones = ones_of fields notes seen

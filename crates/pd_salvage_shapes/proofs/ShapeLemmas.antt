@@ -6,14 +6,12 @@ use Rattle.std.proofs.lemmas.Bool.{cases_Bool}
 use Rattle.std.proofs.lemmas.List.Sums.{sum_by-append}
 use Rattle.std.proofs.lemmas.Option.{none-some}
 use Rattle.pd_kinds.specs.Meaning.{Mapping}
-use Rattle.pd_laid.specs.Shape.{ArePieces, Piece, leaf_mappings, piece_mappings, uses_of_piece}
-use Rattle.pd_shapes.specs.ImageShape.{with_leaf}
-use Rattle.pd_image_shapes.proofs.LeafLemmas.{Ascend, uses_one}
-use Rattle.pd_image_shapes.proofs.PieceLemmas.{number_is, numbers, own_are, own_means, own_uses}
-use Rattle.pd_salvage_shapes.specs.Mets.{Met}
+use Rattle.pd_laid.specs.Shape.{ArePieces, Piece, leaf_mappings, piece_mappings, uses_of_piece, with_leaf}
+use Rattle.pd_salvage_shapes.specs.Note.{Met}
 use Rattle.pd_salvage_shapes.specs.Pieces.{number_of_leaf, pieces_of_mets}
-use Rattle.pd_salvage_shapes.specs.Uses.{leaves_of}
+use Rattle.pd_salvage_shapes.specs.SeenShape.{leaves_of}
 use Rattle.pd_salvage_shapes.specs.Visiting.{maps}
+use Rattle.pd_laws_shapes.proofs.LeafLemmas.{Ascend, uses_one, number_is, numbers, own_are, own_means, own_uses}
 
 -- a met leaf's mappings are the leaf's
 abbrev pub HasItsMappings : (ℕ → List Mapping) → Met → Type 0

@@ -7,18 +7,18 @@ use Rattle.std.proofs.lemmas.Iterator.Adapters.{position_from-zero}
 use Rattle.std.proofs.lemmas.List.Elements.{filter-append}
 use Rattle.std.proofs.lemmas.List.Sums.{sum_by-append}
 use Rattle.std.proofs.Math.Seq.{get_or-append_seam}
-use Rattle.pd_spells.specs.ThinText as text
-use Rattle.pd_thin_meaning.specs.declared.joined.Run.{Run}
-use Rattle.pd_thin_meaning.specs.Joined.{spelled}
+use Rattle.pd_grammar.specs.ThinText as text
+use Rattle.pd_laid.specs.PoolText.{mappings_of_runs}
 use Rattle.pd_graph.proofs.BitLemmas.{range_more}
+use Rattle.pd_meaning_thin.specs.declared.joined.Run.{Run}
+use Rattle.pd_meaning_thin.specs.Runs.{spelled}
 use Rattle.pd_salvage.specs.declared.saved_shape.SavedLeaf.{SavedLeaf}
 use Rattle.pd_salvage.specs.SavedShape.{AreCounted, leaf_parts}
-use Rattle.pd_shapes.specs.SharedText.{mappings_of_runs}
-use Rattle.pd_salvage_shapes.specs.declared.note.Note.{Note}
-use Rattle.pd_salvage_shapes.specs.declared.shared.SharedLeaves.{SharedLeaves}
+use Rattle.pd_salvage.proofs.SavingLemmas.{take_all}
+use Rattle.pd_salvage_shapes.specs.declared.note.LeafNote.{LeafNote}
+use Rattle.pd_salvage_shapes.specs.declared.shape.SharedLeaves.{SharedLeaves}
 use Rattle.pd_salvage_shapes.specs.Note.{noted}
-use Rattle.pd_salvage_shapes.specs.Pieces.{above, number_of_leaf}
-use Rattle.pd_salvage_shapes.specs.Shared.{AddsLeaf, IsSharing, is_twice, leaf_runs, note_at, shared_below}
+use Rattle.pd_salvage_shapes.specs.Pieces.{above, number_of_leaf, AddsLeaf, IsSharing, is_twice, leaf_runs, note_at, shared_below}
 
 -- the place of a number behind one more
 abbrev place_or : Option ℕ → ℕ → ℕ → ℕ → Option ℕ
@@ -37,10 +37,6 @@ position_more xs y b =
     position_from-zero (λ leaf. nat_eq leaf b) (xs ++ y ∷ [])
     ∙ (from_more xs 0 y b (length xs) (omega arith)
     ∙ ap (λ (o : Option ℕ). place_or o y b (length xs)) (sym (position_from-zero (λ leaf. nat_eq leaf b) xs)))
-
-take_all : {X : Type 0} (xs : List X) → take (length xs) xs ≡ xs
-take_all [] = refl
-take_all {X} (x ∷ xs) = ap (λ (ys : List X). x ∷ ys) (take_all xs)
 
 -- leaves with one more
 leaves_more : (ls : List SavedLeaf) (leaf : SavedLeaf) (runs more : List Run) → sum_by (λ (l : SavedLeaf). l.runs) ls ≡ length runs → leaf.runs ≡ length more
@@ -75,7 +71,7 @@ pub none_from : (uses : List ℕ) (n b : ℕ) → n ≤ b → number_of_leaf (sh
 none_from uses n b above = position_from-zero (λ leaf. nat_eq leaf b) (shared_below uses n) ∙ none_at (is_twice uses) 0 n 0 b (omega arith)
 
 -- one block more
-module _ (uses places : List ℕ) (notes : List Note) (n : ℕ) where
+module _ (uses places : List ℕ) (notes : List LeafNote) (n : ℕ) where
   abbrev ones : List ℕ
   ones = shared_below uses n
 
@@ -121,7 +117,7 @@ module _ (uses places : List ℕ) (notes : List Note) (n : ℕ) where
         }
 
     -- it is
-    pub added : (note : Note) → is_twice uses n ≡ true → note_at places notes n ≡ Some note → note.entries ≡ length (noted note) → AddsLeaf note old new → IsSharing uses places notes new (n + 1)
+    pub added : (note : LeafNote) → is_twice uses n ≡ true → note_at places notes n ≡ Some note → note.entries ≡ length (noted note) → AddsLeaf note old new → IsSharing uses places notes new (n + 1)
     added note twice at entries adds =
         let next = shared_taken twice in
         let runs_are : leaf_runs places notes n ≡ note.runs = rw at refl in

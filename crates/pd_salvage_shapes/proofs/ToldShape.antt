@@ -6,31 +6,23 @@ use Rattle.std.proofs.lemmas.Grind.{flat_map-append}
 use Rattle.std.proofs.lemmas.List.Sums.{sum_by-append, sum_by-cons}
 use Rattle.pd_kinds.specs.Meaning.{Mapping}
 use Rattle.pd_kinds.specs.Node.{Entry}
-use Rattle.pd_kinds.specs.ThinSuper.{ThinFields}
-use Rattle.pd_laid.specs.Salvage.{salvaged_device, salvaged_entries, salvaged_mappings, salvage_from}
-use Rattle.pd_laid.specs.Shape.{ShapeDevice}
-use Rattle.pd_laid.specs.Visits.{Visit, visited, visits}
-use Rattle.pd_laid.proofs.VisitLemmas.{visits_give}
-use Rattle.pd_shapes.specs.ImageShape.{mappings_in, with_leaf}
-use Rattle.pd_shapes.specs.SavedShape.{device_visits, is_saved_shared, is_whole_visit, number_of_visit, pieces_of_visits, saved_device_shape, saved_of_visit, saved_shape_from, saved_shared, saved_visits}
-use Rattle.pd_saved_shapes.proofs.VisitPieces.{are_shared, counted_stands, whole_saves}
-use Rattle.pd_salvage_shapes.specs.declared.note.Note.{Note}
+use Rattle.pd_kinds.specs.ThinFormat.{ThinFields}
+use Rattle.pd_laid.specs.Salvage.{salvaged_device, salvaged_entries, salvaged_mappings, salvage_from, Visit, visited, visits, device_visits, is_saved_shared, is_whole_visit, number_of_visit, pieces_of_visits, saved_device_shape, saved_of_visit, saved_shape_from, saved_shared, saved_visits}
+use Rattle.pd_laid.specs.Shape.{ShapeDevice, mappings_in, with_leaf}
+use Rattle.pd_laid.proofs.GatherLemmas.{visits_give}
+use Rattle.pd_salvage_shapes.specs.declared.note.LeafNote.{LeafNote}
 use Rattle.pd_salvage_shapes.specs.declared.tops.Top.{Top}
 use Rattle.pd_salvage_shapes.specs.declared.visiting.Seen.{Seen}
-use Rattle.pd_salvage_shapes.specs.Devices.{shaped_device, shaped_devices}
-use Rattle.pd_salvage_shapes.specs.Mets.{Met, met_of, met_of_visit, mets_below, mets_of_root}
-use Rattle.pd_salvage_shapes.specs.Pieces.{number_of_leaf, pieces_of_mets}
-use Rattle.pd_salvage_shapes.specs.Seen.{mets_of_seen, mets_of_tops}
-use Rattle.pd_salvage_shapes.specs.SeenShape.{ones_of, seen_shape}
-use Rattle.pd_salvage_shapes.specs.Shared.{leaf_maps}
-use Rattle.pd_salvage_shapes.specs.Tops.{HasDetails, TellsTops, entry_of_top}
-use Rattle.pd_salvage_shapes.specs.Uses.{all_mets, leaves_of}
+use Rattle.pd_salvage_shapes.specs.SeenShape.{shaped_device, shaped_devices, ones_of, seen_shape, all_mets, leaves_of}
+use Rattle.pd_salvage_shapes.specs.Note.{Met, met_of, met_of_visit, mets_below, mets_of_root}
+use Rattle.pd_salvage_shapes.specs.Pieces.{number_of_leaf, pieces_of_mets, leaf_maps}
+use Rattle.pd_salvage_shapes.specs.Tops.{mets_of_seen, mets_of_tops, HasDetails, TellsTops, entry_of_top}
 use Rattle.pd_salvage_shapes.specs.Visiting.{AreNotes, IsSeen, maps, mets_of}
-use Rattle.pd_salvage_shapes.proofs.LeafTable.{all_mets_true}
+use Rattle.pd_salvage_shapes.proofs.LeafTable.{all_mets_true, leaves_append}
 use Rattle.pd_salvage_shapes.proofs.ShapeIs.{filter_same}
 use Rattle.pd_salvage_shapes.proofs.ShapeLemmas.{HasItsMappings}
 use Rattle.pd_salvage_shapes.proofs.TreeLemmas.{maps_visits}
-use Rattle.pd_salvage_shapes.proofs.UseLemmas.{leaves_append}
+use Rattle.pd_laws_shapes.proofs.VisitPieces.{are_shared, counted_stands, whole_saves}
 
 front_all : {X : Type 0} (P : X → Type 0) (xs ys : List X) → AllByRecursion P (xs ++ ys) → AllByRecursion P xs × AllByRecursion P ys
 front_all P [] ys all = (tt, all)
@@ -124,7 +116,7 @@ module _ (fields : ThinFields) (image : List (List ℕ)) where
   unfolding mets_below salvaged_mappings salvaged_entries
   root_maps root = rw (maps_visits fields image (visits 8 fields.meta_map.blocks image 64 root 0 (2 ^ 64)), visits_give 8 fields.meta_map.blocks image 64 root 0 (2 ^ 64)) refl
 
-  module _ (places : List ℕ) (notes : List Note) (notes_are : AreNotes fields.data_map.blocks places notes) where
+  module _ (places : List ℕ) (notes : List LeafNote) (notes_are : AreNotes fields.data_map.blocks places notes) where
     -- what was met of all devices are the saved visits
     tops_mets : (tops : List Top) (seen : List Seen) → mets_of_seen notes seen ≡ mets_of_tops fields image tops → all_mets notes seen ≡ flat_map met (flat_map (device_visits fields image) (map entry_of_top tops))
     tops_mets [] [] same = refl

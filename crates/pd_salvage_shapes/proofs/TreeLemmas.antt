@@ -1,30 +1,31 @@
 -- A tree that was met.
-use Rattle.std.proofs.Common.{◌≡◌, ℕ, ◌-◌, ◌^◌, ◌<◌, nat_lt, cond, List, [], ◌∷◌, ◌++◌, map, filter, Option, Some, None, IfSome, refl, sym, ap, ◌∙◌, subst, arith}
+use Rattle.std.proofs.Common.{◌≡◌, ℕ, ◌-◌, ◌^◌, ◌<◌, nat_lt, cond, List, [], ◌∷◌, ◌++◌, map, filter, Option, Some, None, IfSome, refl, sym, ap, ◌∙◌, subst, arith, inl, inr, suc, ◌≤◌, Bool, true, false, ◌&&◌, nat_eq, nat_le, length, eq-eqb}
 use Rattle.std.specs.List.{flat_map}
-use Rattle.std.proofs.lemmas.List.{append-nil, map-append}
+use Rattle.std.proofs.lemmas.List.{append-nil, map-append, length-map}
 use Rattle.std.proofs.lemmas.List.Elements.{filter-append}
-use Rattle.pd_kinds.specs.Node.{Entry}
-use Rattle.pd_kinds.specs.ThinFormat.{mapped_block}
-use Rattle.pd_kinds.specs.ThinSuper.{ThinFields}
-use Rattle.pd_laid.specs.Visits.{Visit, entries_of_visit, visits}
-use Rattle.pd_laid.proofs.VisitLemmas.{visits_give}
-use Rattle.pd_shapes.specs.SavedShape.{is_whole_visit, saved_of_visit}
-use Rattle.pd_spells.specs.Lawful.{AreMappings}
+use Rattle.std.proofs.lemmas.Bool.{cases_Bool, eqb-true, ne_eqb, both_ways}
+use Rattle.pd_kinds.specs.Node.{Entry, entry_count, is_inner_node}
+use Rattle.pd_kinds.specs.ThinFormat.{mapped_block, ThinFields}
+use Rattle.pd_kinds.specs.Graph.{is_outside, block_at}
+use Rattle.pd_kinds.specs.Layout.{leaf_entries}
+use Rattle.pd_grammar.specs.Lawful.{AreMappings}
+use Rattle.pd_laid.specs.Salvage.{Visit, entries_of_visit, visits, is_whole_visit, saved_of_visit, is_damaged}
+use Rattle.pd_laid.proofs.GatherLemmas.{visits_give}
+use Rattle.pd_laid.specs.Shape.{mappings_in}
 use Rattle.pd_tree.proofs.NextLemmas.{if_both}
-use Rattle.pd_salvage.specs.declared.range.Range.{Range}
+use Rattle.pd_salvage.specs.declared.way.Range.{Range}
 use Rattle.pd_salvage.specs.declared.way.Way.{Way}
 use Rattle.pd_salvage.specs.Range.{all_keys}
-use Rattle.pd_salvage.specs.Steps.{GoesDown}
-use Rattle.pd_salvage.specs.Way.{told}
+use Rattle.pd_salvage.specs.Way.{GoesDown, told}
 use Rattle.pd_salvage.proofs.AscendLemmas.{give_ascends}
-use Rattle.pd_salvage.proofs.ToldLemmas.{told_none}
+use Rattle.pd_salvage.proofs.RangeLemmas.{told_none, at_leaf, none_damaged}
 use Rattle.pd_salvage_shapes.specs.declared.visiting.Seen.{Seen}
 use Rattle.pd_salvage_shapes.specs.declared.visiting.Visiting.{Visiting}
-use Rattle.pd_salvage_shapes.specs.Mets.{Met, met_of_visit, mets_below, mets_of_root, way_left}
-use Rattle.pd_salvage_shapes.specs.Note.{mapping_of_entry}
-use Rattle.pd_salvage_shapes.specs.Visiting.{GoesOn, IsBegun, Meets, MeetsAll, MeetsTree, SeesDevice, TellsAll, maps, mets_now}
-use Rattle.pd_salvage_shapes.proofs.NoteLemmas.{mappings_are}
+use Rattle.pd_salvage_shapes.specs.Note.{Met, met_of_visit, mets_below, mets_of_root, way_left, mapping_of_entry, Notes, in_keys, met_in, noted, saved_at, saved_in}
+use Rattle.pd_salvage_shapes.specs.Visiting.{GoesOn, IsBegun, Meets, MeetsAll, MeetsTree, SeesDevice, TellsAll, maps, mets_now, TellsLeaf}
+use Rattle.pd_salvage_shapes.proofs.NoteLemmas.{mappings_are, few_in, few_saved, leaf_is, saved_keys}
 use Rattle.pd_salvage_shapes.proofs.VisitingLemmas.{maps_append, maps_met}
+use Rattle.pd_salvage_shapes.specs.declared.note.LeafNote.{LeafNote}
 
 -- what is met below a root ascends
 module _ (fields : ThinFields) (image : List (List ℕ)) where
@@ -105,3 +106,67 @@ seen_tree held root seen old new tree met mapped fits = record {
   };
   told = rw met tree.told;
 }
+
+-- The note of a leaf tells what is met of it.
+
+-- so many are all of a number, where as many of them as there are are so
+whole_is : (a n number : ℕ) (sized : Bool) → a ≤ n → n ≤ number → (nat_eq a number && sized) ≡ ((nat_eq n number && sized) && nat_eq a n)
+whole_is a n number sized few most = elim (cases_Bool (nat_eq a number)) [
+  | inl all ↦
+      let same = eqb-true a number all in
+      rw (all, eq-eqb n number (omega arith), eq-eqb a n (omega arith)) (and_true sized)
+  | inr less ↦ elim (cases_Bool (nat_eq n number)) [
+    | inl full ↦
+        let same = eqb-true n number full in
+        let other : nat_eq a n ≡ false = ne_eqb a n (λ is. both_ways (nat_eq a number) less (eq-eqb a number (omega arith))) in
+        rw (less, full, other) (and_false sized)
+    | inr part ↦ rw (less, part) refl
+  ]
+]
+  where
+    and_true : (b : Bool) → (true && b) ≡ ((true && b) && true)
+    and_true true = refl
+    and_true false = refl
+
+    and_false : (b : Bool) → (false && b) ≡ ((true && b) && false)
+    and_false true = refl
+    and_false false = refl
+
+module _ (fields : ThinFields) (image : List (List ℕ)) (b : ℕ) (block : List ℕ) (note : LeafNote) (is : Notes fields.data_map.blocks b block all_keys note) (read : block_at image b ≡ block)
+    (leaf : is_damaged 8 b block ≡ false → is_inner_node block ≡ false) where
+  abbrev blocks : ℕ
+  blocks = fields.data_map.blocks
+
+  none_noted : is_damaged 8 b block ≡ true → noted note ≡ []
+  none_noted damaged = is.mappings ∙ rw damaged refl
+
+  all_noted : is_damaged 8 b block ≡ false → noted note ≡ saved_in blocks all_keys (leaf_entries 8 block)
+  all_noted sound = is.mappings ∙ rw sound refl
+
+  kept_in : (sound : is_damaged 8 b block ≡ false) (range : Range) → saved_in blocks range (leaf_entries 8 block) ≡ in_keys range (noted note)
+  kept_in sound range =
+      rw (all_noted sound, leaf_is block (leaf sound)) (saved_keys blocks range block 0 (entry_count 8 block) (λ i from below. is.fits sound (leaf sound) i (omega arith)))
+
+  note_saves : (range : Range) → saved_at blocks b (block_at image b) range ≡ in_keys range (noted note)
+  note_saves range = elim (cases_Bool (is_damaged 8 b block)) [
+    | inl damaged ↦ rw (read, damaged, none_noted damaged) refl
+    | inr sound ↦ rw (read, sound) (kept_in sound range)
+  ]
+
+  note_meets : (j : ℕ) (range : Range) → is_outside fields.meta_map.blocks b ≡ false → mets_below fields image (suc j) range b ≡ met_in note range
+  unfolding mets_below
+  note_meets j range inside = elim (cases_Bool (is_damaged 8 b block)) [
+    | inl damaged ↦ none_damaged (met_of_visit fields image) 8 fields.meta_map.blocks image (suc j) b range (rw read damaged) ∙ rw (none_noted damaged) refl
+    | inr sound ↦
+        let kept = kept_in sound range in
+        let ms = in_keys range (noted note) in
+        let number : length (mappings_in image b) ≡ length (leaf_entries 8 block) = length-map (leaf_entries 8 (block_at image b)) mapping_of_entry ∙ rw read refl in
+        let most : length (noted note) ≤ length (leaf_entries 8 block) = rw (all_noted sound) (few_saved blocks all_keys block (leaf_entries 8 block)) in
+        let sized = nat_le 1 (length (leaf_entries 8 block)) && nat_le (length (leaf_entries 8 block)) 252 in
+        let whole = whole_is (length ms) (length (noted note)) (length (leaf_entries 8 block)) sized (few_in range (noted note)) most in
+        at_leaf (met_of_visit fields image) 8 fields.meta_map.blocks image j b range inside (rw read sound) (rw read (leaf sound))
+        ∙ rw (number, read, kept, whole, is.full, is.at) refl
+  ]
+
+  pub note_tells : TellsLeaf fields image b note
+  note_tells = record { meets = note_meets; saves = note_saves }

@@ -4,34 +4,28 @@ use Rattle.std.specs.List.{AllByRecursion, flat_map, slice_get}
 use Rattle.std.proofs.lemmas.Bool.{both_ways, eqb-true, ne_eqb, cases_Bool}
 use Rattle.std.proofs.lemmas.List.{length-append, get_or-set_same, get_or-set_other}
 use Rattle.std.proofs.lemmas.Option.{IfSome_then, slice_get_within}
-use Rattle.pd_kinds.specs.Edge.{is_outside}
-use Rattle.pd_kinds.specs.Graph.{block_at}
+use Rattle.pd_kinds.specs.Graph.{is_outside, block_at}
 use Rattle.pd_kinds.specs.Meaning.{Mapping}
 use Rattle.pd_kinds.specs.Node.{is_inner_node}
-use Rattle.pd_kinds.specs.ThinSuper.{ThinFields}
-use Rattle.pd_laid.specs.Salvage.{is_damaged}
-use Rattle.pd_laid.specs.Visits.{Visit, entries_of_visit}
-use Rattle.pd_shapes.specs.SavedShape.{is_whole_visit, saved_of_visit}
-use Rattle.pd_spells.specs.Lawful.{AreMappings}
+use Rattle.pd_kinds.specs.ThinFormat.{ThinFields}
+use Rattle.pd_grammar.specs.Lawful.{AreMappings}
+use Rattle.pd_laid.specs.Salvage.{is_damaged, Visit, entries_of_visit, is_whole_visit, saved_of_visit}
 use Rattle.pd_tree.specs.Stack.{child_weight, last_place}
 use Rattle.pd_tree.proofs.NextLemmas.{if_both}
 use Rattle.pd_tree.proofs.StackLemmas.{unit_some}
-use Rattle.pd_salvage.specs.declared.range.Range.{Range}
+use Rattle.pd_salvage.specs.declared.way.Range.{Range}
 use Rattle.pd_salvage.specs.declared.way.Way.{Way}
 use Rattle.pd_salvage.specs.Range.{is_wanted}
-use Rattle.pd_salvage.specs.Steps.{PushesNode}
-use Rattle.pd_salvage.specs.Way.{frontier, told, way_number}
-use Rattle.pd_salvage.proofs.RangeLemmas.{unwanted, wanted}
-use Rattle.pd_salvage.proofs.ToldLemmas.{told_inner, told_more}
-use Rattle.pd_salvage_shapes.specs.declared.note.Note.{Note}
+use Rattle.pd_salvage.specs.Way.{PushesNode, frontier, told, way_number}
+use Rattle.pd_salvage.proofs.RangeLemmas.{unwanted, wanted, told_inner, told_more}
+use Rattle.pd_salvage_shapes.specs.declared.note.LeafNote.{LeafNote}
 use Rattle.pd_salvage_shapes.specs.declared.visiting.Visiting.{Visiting}
-use Rattle.pd_salvage_shapes.specs.Mets.{Met, met_of, met_of_visit, mets_below, way_left}
-use Rattle.pd_salvage_shapes.specs.Note.{IsNote, in_keys, met_in, met_of_note, noted, saved_at}
-use Rattle.pd_salvage_shapes.specs.Visiting.{AreMet, AreNotes, Grow, IsNoted, IsRaised, IsReady, KnowsInner, Meets, MeetsAll, ReadsPart, StaysOnWay, TakesNote, TakesOwn, Tells, TellsAll, TellsLeaf, Visits, is_undamaged_inner, maps, mets_now, mets_of}
+use Rattle.pd_salvage_shapes.specs.Note.{Met, met_of, met_of_visit, mets_below, way_left, IsNote, in_keys, met_in, met_of_note, noted, saved_at}
+use Rattle.pd_salvage_shapes.specs.Visiting.{AreMet, AreNotes, Grow, IsNoted, IsRaised, IsReady, KnowsInner, Meets, MeetsAll, ReadsPart, TakesNote, TakesOwn, Tells, TellsAll, TellsLeaf, Visits, is_undamaged_inner, maps, mets_now, mets_of}
 use Rattle.pd_salvage_shapes.proofs.VisitingLemmas.{all_weaker, at_pushed, last_at, maps_append, maps_met, mets_grow, pushed_at, raised_are, raised_same, took_mets, took_ready, took_rest}
 
 -- a note was added
-module _ (old : Visiting) (ready : IsReady old) (note : Note) (sound : IsNote old.s.data_map.blocks note) (notes : List Note) (is : notes ≡ old.notes.items ++ note ∷ []) where
+module _ (old : Visiting) (ready : IsReady old) (note : LeafNote) (sound : IsNote old.s.data_map.blocks note) (notes : List LeafNote) (is : notes ≡ old.notes.items ++ note ∷ []) where
   abbrev blocks : ℕ
   blocks = old.s.data_map.blocks
 
@@ -56,7 +50,7 @@ module _ (old : Visiting) (ready : IsReady old) (note : Note) (sound : IsNote ol
     counted = rw same_mets ready.met.counted;
   }
 
-  each_grown : (k : ℕ) (n : Note) → slice_get notes k ≡ Some n → IsNote blocks n
+  each_grown : (k : ℕ) (n : LeafNote) → slice_get notes k ≡ Some n → IsNote blocks n
   each_grown k n at = elim (pushed_at old.notes.items note k n (rw is at at)) [
     | inl before ↦ ready.notes.each k n before
     | inr last ↦ rw last.1 sound
@@ -132,7 +126,7 @@ module _ (old : Visiting) (ready : IsReady old) (note : Note) (sound : IsNote ol
     ]
 
 -- a note of the device's own was met
-module _ (k : ℕ) (note : Note) (old mid new : Visiting) (ready : IsReady old) (sound : IsNote old.s.data_map.blocks note) (part : note.full ≡ false)
+module _ (k : ℕ) (note : LeafNote) (old mid new : Visiting) (ready : IsReady old) (sound : IsNote old.s.data_map.blocks note) (part : note.full ≡ false)
     (from : AreMappings old.s.data_map.blocks old.least (noted note)) (is : mid.notes.items ≡ old.notes.items ++ note ∷ []) (number : k ≡ length old.notes.items)
     (s : mid.s ≡ old.s) (way : mid.way ≡ old.way) (places : mid.places ≡ old.places) (met : mid.met ≡ old.met) (mapped : mid.mapped ≡ old.mapped) (least : mid.least ≡ old.least)
     (takes : TakesNote k note mid new) where
@@ -204,26 +198,12 @@ module _ (held : Option (List (List ℕ))) (b : ℕ) (range : Range) (old : Visi
         record { tells = tells; mets = rw none refl; ascend = rw none at ascend });
   }
 
-  pub stays_met : (new : Visiting) → StaysOnWay held b range old new → Meets held b range old new
-  stays_met new stays = record {
-    same = rw stays.same refl;
-    ready = rw stays.same (record { places = ready.places; notes = ready.notes; met = ready.met });
-    grow = rw stays.same (λ k n at. at);
-    number = stays.number;
-    knows = stays.knows;
-    told = IfSome_then held stays.left (λ image left tells ascend. rw stays.same (record {
-      tells = tells;
-      mets = ap (λ (ms : List Met). mets_now old ++ ms) left;
-      ascend = rw left ascend;
-    }));
-  }
-
 -- the rest of what was met behind a leaf
 split_maps : (a b : List Met) (ms : List Mapping) → maps a ≡ ms → maps (a ++ b) ≡ ms ++ maps b
 split_maps a b ms is = maps_append a b ∙ ap (λ (xs : List Mapping). xs ++ maps b) is
 
 -- a visit of a noted leaf in a range
-module _ (b k : ℕ) (note : Note) (range raised : Range) (old new : Visiting) (ready : IsReady old) (at : slice_get old.notes.items k ≡ Some note) (named : get_or old.places.items b 0 ≡ suc k)
+module _ (b k : ℕ) (note : LeafNote) (range raised : Range) (old new : Visiting) (ready : IsReady old) (at : slice_get old.notes.items k ≡ Some note) (named : get_or old.places.items b 0 ≡ suc k)
     (lifts : IsRaised old.least range raised) where
   abbrev pool : ℕ
   pool = old.s.data_map.blocks
@@ -259,7 +239,7 @@ module _ (b k : ℕ) (note : Note) (range raised : Range) (old new : Visiting) (
         and_one false = refl
 
     -- a part of it
-    pub part_met : (part : Note) → length (in_keys raised (noted note)) < length (noted note) → part.full ≡ false → noted part ≡ saved_at pool b (block_at image b) raised
+    pub part_met : (part : LeafNote) → length (in_keys raised (noted note)) < length (noted note) → part.full ≡ false → noted part ≡ saved_at pool b (block_at image b) raised
         → (met_in note range ≡ met_of_note part) × AreMappings pool old.least (noted part ++ maps left)
     part_met part less own is =
         let same : noted part ≡ in_keys range (noted note) = is ∙ (leaf.saves raised ∙ kept) in
@@ -272,7 +252,7 @@ module _ (b k : ℕ) (note : Note) (range raised : Range) (old new : Visiting) (
         and_none false = refl
 
     -- what was met, and what is left
-    pub meets_more : (other : Note) → (met_in note range ≡ met_of_note other) × AreMappings pool old.least (noted other ++ maps left) → new.s ≡ old.s → TellsAll image new
+    pub meets_more : (other : LeafNote) → (met_in note range ≡ met_of_note other) × AreMappings pool old.least (noted other ++ maps left) → new.s ≡ old.s → TellsAll image new
         → mets_now new ≡ mets_now old ++ met_of_note other → ((rest : List Mapping) → AreMappings pool old.least (noted other ++ rest) → AreMappings pool new.least rest)
         → way_left old.s image new.way ≡ left → MeetsAll image (mets_now old ++ (mets_below old.s image (suc j) range b ++ left)) new
     meets_more other is s new_tells mets rest same_left = record {
@@ -289,7 +269,7 @@ module _ (b k : ℕ) (note : Note) (range raised : Range) (old new : Visiting) (
         (took_mets k note old new ready at from takes) (took_rest k note old new ready at from takes) (rw takes.same.1 refl)
 
     -- a part of one
-    pub part_told : (part : Note) (way : Way) → frontier 8 way ≡ frontier 8 old.way
+    pub part_told : (part : LeafNote) (way : Way) → frontier 8 way ≡ frontier 8 old.way
         → length (in_keys raised (noted note)) < length (noted note) → part.full ≡ false → noted part ≡ saved_at pool b (block_at image b) raised
         → TakesOwn part (record old { way = way }) new → MeetsAll image (mets_now old ++ (mets_below old.s image (suc j) range b ++ left)) new
     part_told part way same less own is takes =
@@ -306,7 +286,7 @@ module _ (b k : ℕ) (note : Note) (range raised : Range) (old new : Visiting) (
         told = any_if held (λ image tells j inside ascend. whole_told image tells j inside ascend all from takes);
       }
 
-  pub visits_part : (held : Option (List (List ℕ))) (part : Note) (mid : Visiting) → length (in_keys raised (noted note)) < length (noted note) → ReadsPart held b raised part old mid → TakesOwn part mid new
+  pub visits_part : (held : Option (List (List ℕ))) (part : LeafNote) (mid : Visiting) → length (in_keys raised (noted note)) < length (noted note) → ReadsPart held b raised part old mid → TakesOwn part mid new
       → Visits held b range old new
   visits_part held part mid less reads takes =
       let own : TakesOwn part (record old { way = mid.way }) new = subst (λ (v : Visiting). TakesOwn part v new) reads.same takes in
@@ -324,7 +304,7 @@ module _ (b k : ℕ) (note : Note) (range raised : Range) (old new : Visiting) (
       }
 
 -- a part that may follow
-pub part_from : (held : Option (List (List ℕ))) (b : ℕ) (range raised : Range) (part : Note) (old mid : Visiting) → IsRaised old.least range raised → ReadsPart held b raised part old mid
+pub part_from : (held : Option (List (List ℕ))) (b : ℕ) (range raised : Range) (part : LeafNote) (old mid : Visiting) → IsRaised old.least range raised → ReadsPart held b raised part old mid
     → AreMappings mid.s.data_map.blocks mid.least (noted part)
 part_from held b range raised part old mid lifts reads =
     let from : AreMappings old.s.data_map.blocks old.least (noted part) =

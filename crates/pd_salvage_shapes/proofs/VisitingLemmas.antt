@@ -1,19 +1,20 @@
 -- What was met of a device, with one note more.
-use Rattle.std.proofs.Common.{◌≡◌, ◌⊎◌, inl, inr, ℕ, zero, suc, ◌+◌, ◌^◌, ◌<◌, ◌≤◌, Bool, true, false, cond, not, ◌&&◌, nat_lt, List, [], ◌∷◌, ◌++◌, length, Option, Some, None, refl, sym, ap, ◌∙◌, arith, append_assoc}
-use Rattle.std.specs.List.{AllByRecursion, slice_get}
+use Rattle.std.proofs.Common.{◌≡◌, ◌⊎◌, inl, inr, ℕ, zero, suc, ◌+◌, ◌^◌, ◌<◌, ◌≤◌, Bool, true, false, cond, not, ◌&&◌, nat_lt, List, [], ◌∷◌, ◌++◌, length, Option, Some, None, refl, sym, ap, ◌∙◌, arith, append_assoc, ◌%◌}
+use Rattle.std.specs.List.{AllByRecursion, slice_get, flat_map}
 use Rattle.std.proofs.lemmas.Bool.{cases_Bool, cases_lt, lt-ltb, le-ltb, both_ways}
 use Rattle.std.proofs.lemmas.Grind.{flat_map-append}
 use Rattle.std.proofs.lemmas.Option.{slice_get_within}
 use Rattle.std.proofs.lemmas.List.{append-nil, length-append}
+use Rattle.std.proofs.lemmas.List.FromFn.{map-range_with_len_more}
 use Rattle.pd_kinds.specs.Meaning.{Mapping}
-use Rattle.pd_spells.specs.Lawful.{AreMappings}
-use Rattle.pd_salvage.specs.declared.range.Range.{Range}
+use Rattle.pd_grammar.specs.Lawful.{AreMappings}
+use Rattle.pd_salvage.specs.declared.way.Range.{Range}
 use Rattle.pd_salvage.specs.Range.{is_in_range}
-use Rattle.pd_salvage_shapes.specs.declared.note.Note.{Note}
+use Rattle.pd_salvage_shapes.specs.declared.note.LeafNote.{LeafNote}
 use Rattle.pd_salvage_shapes.specs.declared.visiting.Visiting.{Visiting}
-use Rattle.pd_salvage_shapes.specs.Mets.{Met, met_of}
-use Rattle.pd_salvage_shapes.specs.Note.{IsNote, end_key, in_keys, met_of_note, noted}
+use Rattle.pd_salvage_shapes.specs.Note.{Met, met_of, IsNote, end_key, in_keys, met_of_note, noted, numbers_in, range_numbers}
 use Rattle.pd_salvage_shapes.specs.Visiting.{AreMet, Grow, IsRaised, IsReady, TakesNote, maps, mets_at, mets_now, mets_of}
+use Rattle.pd_salvage_shapes.specs.declared.numbers.NumberRange.{NumberRange}
 
 -- what stands at a place, with one more behind
 module _ {X : Type 0} where
@@ -49,13 +50,13 @@ module _ {X : Type 0} where
   all_weaker P Q weaker (x ∷ xs) all = (weaker x all.0, all_weaker P Q weaker xs all.1)
 
 -- what notes met, where there are more of them
-pub mets_grow : (old new : List Note) (ks : List ℕ) → Grow old new → AllByRecursion (λ k. k < length old) ks → mets_of new ks ≡ mets_of old ks
+pub mets_grow : (old new : List LeafNote) (ks : List ℕ) → Grow old new → AllByRecursion (λ k. k < length old) ks → mets_of new ks ≡ mets_of old ks
 mets_grow old new [] grow all = refl
 mets_grow old new (k ∷ ks) grow all =
     let here = some_at old k all.0 in
     rw (here.1, grow k here.0 here.1, mets_grow old new ks grow all.1) refl
 
-pub mets_more : (notes : List Note) (ks : List ℕ) (k : ℕ) (note : Note) → slice_get notes k ≡ Some note → mets_of notes (ks ++ k ∷ []) ≡ mets_of notes ks ++ met_of_note note
+pub mets_more : (notes : List LeafNote) (ks : List ℕ) (k : ℕ) (note : LeafNote) → slice_get notes k ≡ Some note → mets_of notes (ks ++ k ∷ []) ≡ mets_of notes ks ++ met_of_note note
 mets_more notes ks k note is =
     flat_map-append (λ n. mets_at (slice_get notes n)) ks (k ∷ [])
     ∙ ap (λ (ms : List Met). mets_of notes ks ++ ms) (append-nil (mets_at (slice_get notes k)) ∙ ap mets_at is)
@@ -84,10 +85,6 @@ module _ (blocks : ℕ) where
   rest_mappings least [] rest some are = absurd (omega arith)
   rest_mappings least (m ∷ []) rest some are = are.1
   rest_mappings least (m ∷ n ∷ ms) rest some are = rest_mappings (m.virtual_block + 1) (n ∷ ms) rest (omega arith) are.1
-
-  pub front_mappings : (least : ℕ) (ms rest : List Mapping) → AreMappings blocks least (ms ++ rest) → AreMappings blocks least ms
-  front_mappings least [] rest are = tt
-  front_mappings least (m ∷ ms) rest are = (are.0, front_mappings (m.virtual_block + 1) ms rest are.1)
 
   kept_mappings : (range : Range) (low : ℕ) (ms : List Mapping) → AreMappings blocks low ms → AreMappings blocks low (in_keys range ms)
   kept_mappings range low [] are = tt
@@ -143,7 +140,7 @@ module _ (blocks : ℕ) where
     ]
 
 -- a note was met
-module _ (k : ℕ) (note : Note) (old new : Visiting) (ready : IsReady old) (at : slice_get old.notes.items k ≡ Some note) (from : AreMappings old.s.data_map.blocks old.least (noted note))
+module _ (k : ℕ) (note : LeafNote) (old new : Visiting) (ready : IsReady old) (at : slice_get old.notes.items k ≡ Some note) (from : AreMappings old.s.data_map.blocks old.least (noted note))
     (takes : TakesNote k note old new) where
   abbrev blocks : ℕ
   blocks = old.s.data_map.blocks
@@ -215,3 +212,14 @@ module _ (k : ℕ) (note : Note) (old new : Visiting) (ready : IsReady old) (at 
         let empty : note.entries ≡ 0 = omega arith in
         rw (takes.none empty).2 (rw (none_noted empty) at are)
   ]
+
+-- Numbers that are held as ranges, and one more of them.
+
+-- a range that is one longer has the next number at its end
+pub longer_range : (first count : ℕ) → range_numbers (record { first = first; count = count + 1 }) ≡ range_numbers (record { first = first; count = count }) ++ (first + count) % 2 ^ 32 ∷ []
+longer_range first count = map-range_with_len_more (λ i. (first + i) % 2 ^ 32) 0 count count (omega arith)
+
+-- the number goes on with the last range
+pub next_number : (done : List NumberRange) (last : NumberRange) (number : ℕ) → number ≡ (last.first + last.count) % 2 ^ 32
+    → numbers_in done (record { first = last.first; count = last.count + 1 }) ≡ numbers_in done last ++ number ∷ []
+next_number done last number is = rw (longer_range last.first last.count, is) (sym (append_assoc (flat_map range_numbers done) (range_numbers last) ((last.first + last.count) % 2 ^ 32 ∷ [])))

@@ -1,11 +1,5 @@
-pub mod Numbers
-pub mod Mets
 pub mod Note
 pub mod Pieces
-pub mod Tops
-pub mod Uses
-pub mod Devices
 pub mod SeenShape
-pub mod Seen
-pub mod Shared
+pub mod Tops
 pub mod Visiting

@@ -1,20 +1,51 @@
 -- What is noted of a leaf: the mappings that are saved of it in a range of keys.
-use Rattle.std.specs.Prelude.{◌≡◌, ℕ, ◌+◌, ◌^◌, ◌<◌, ◌≤◌, ◌==◌, ◌&&◌, Bool, true, false, nat_lt, nat_le, if◌then◌else◌, List, [], ◌∷◌, length, map, filter, Some, None}
-use Rattle.pd_kinds.specs.Layout.{leaf_entries}
+-- What is met of a device's mappings: of each visit the mappings that it saves, and its leaf where these are all of it.
+-- Numbers that are held as ranges of numbers in a row.
+use Rattle.std.specs.Prelude.{ℕ, if◌then◌else◌, List, [], ◌∷◌, Option, Some, None, ◌≡◌, ◌+◌, ◌^◌, ◌<◌, ◌≤◌, ◌==◌, ◌&&◌, Bool, true, false, nat_lt, nat_le, length, map, filter, ◌%◌, ◌++◌}
+use Rattle.std.specs.List.{flat_map, range_with_len}
 use Rattle.pd_kinds.specs.Meaning.{Mapping}
+use Rattle.pd_kinds.specs.ThinFormat.{ThinFields, mapped_block, mapped_time}
+use Rattle.pd_kinds.specs.Layout.{leaf_entries}
 use Rattle.pd_kinds.specs.Node.{Entry, entry_count, is_inner_node, key_at}
-use Rattle.pd_kinds.specs.ThinFormat.{mapped_block, mapped_time}
-use Rattle.pd_laid.specs.Salvage.{is_damaged}
-use Rattle.pd_spells.specs.Lawful.{AreMappings}
-use Rattle.pd_spells.specs.ThinText.{joined_runs}
-use Rattle.pd_thin_meaning.specs.declared.joined.Run.{Run}
-use Rattle.pd_thin_meaning.specs.Joined.{spelled}
-use Rattle.pd_salvage.specs.declared.range.Range.{Range}
+use Rattle.pd_grammar.specs.Lawful.{AreMappings}
+use Rattle.pd_grammar.specs.ThinText.{joined_runs}
+use Rattle.pd_laid.specs.Salvage.{Visit, is_whole_visit, saved_of_visit, is_damaged}
+use Rattle.pd_meaning_thin.specs.declared.joined.Run.{Run}
+use Rattle.pd_meaning_thin.specs.Runs.{spelled}
+use Rattle.pd_salvage.specs.declared.way.Range.{Range}
+use Rattle.pd_salvage.specs.declared.way.Way.{Way}
+use Rattle.pd_salvage.specs.Range.{all_keys, given_below, is_in_range}
+use Rattle.pd_salvage.specs.Way.{told_on}
 use Rattle.pd_salvage.specs.Gather.{IsJoining, mappings_of_runs}
-use Rattle.pd_salvage.specs.Range.{is_in_range}
 use Rattle.pd_salvage_shapes.specs.declared.note.LeafGathering.{LeafGathering}
-use Rattle.pd_salvage_shapes.specs.declared.note.Note.{Note}
-use Rattle.pd_salvage_shapes.specs.Mets.{Met, met_of}
+use Rattle.pd_salvage_shapes.specs.declared.note.LeafNote.{LeafNote}
+use Rattle.pd_salvage_shapes.specs.declared.numbers.NumberRange.{NumberRange}
+
+-- some mappings, and the leaf whose mappings they are, where they are all of a leaf
+pub record Met : Type 0 where
+  pub leaf : Option ℕ
+  pub mappings : List Mapping
+
+-- without mappings nothing is met
+abbrev pub met_of : Option ℕ → List Mapping → List Met
+met_of leaf [] = []
+met_of leaf (m ∷ ms) = record { leaf = leaf; mappings = m ∷ ms } ∷ []
+
+-- what is met by a visit
+abbrev pub met_of_visit : ThinFields → List (List ℕ) → Visit → List Met
+met_of_visit fields image v = met_of (if is_whole_visit fields image v then Some v.leaf else None) (saved_of_visit fields image v)
+
+-- what is met below a block in a range of keys, by paths of at most so many nodes
+unfoldable pub mets_below : ThinFields → List (List ℕ) → ℕ → Range → ℕ → List Met
+mets_below fields image j range b = given_below (met_of_visit fields image) 8 fields.meta_map.blocks image j range b
+
+-- what is met below a root
+abbrev pub mets_of_root : ThinFields → List (List ℕ) → ℕ → List Met
+mets_of_root fields image root = mets_below fields image 64 all_keys root
+
+-- what is met of what is left on a way: an entry gives nothing, as leaves are visited whole
+abbrev pub way_left : ThinFields → List (List ℕ) → Way → List Met
+way_left fields image way = told_on (λ e. []) (mets_below fields image) 8 way
 
 -- the mapping of an entry
 abbrev pub mapping_of_entry : Entry → Mapping
@@ -40,11 +71,11 @@ end_key (m ∷ []) = m.virtual_block + 1
 end_key (m ∷ n ∷ ms) = end_key (n ∷ ms)
 
 -- the mappings that are noted
-abbrev pub noted : Note → List Mapping
+abbrev pub noted : LeafNote → List Mapping
 noted note = mappings_of_runs note.runs
 
 -- a note's mappings are lawful, its runs are as long as can be, and its numbers are those of its mappings
-pub record IsNote (blocks : ℕ) (note : Note) : Type 0 where
+pub record IsNote (blocks : ℕ) (note : LeafNote) : Type 0 where
   pub lawful : AreMappings blocks 0 (noted note)
   pub joined : joined_runs (noted note) ≡ map spelled note.runs
   pub counted : note.entries ≡ length (noted note)
@@ -57,7 +88,7 @@ abbrev pub is_all_of : List ℕ → List Mapping → Bool
 is_all_of block ms = let number = length (leaf_entries 8 block) in (length ms == number) && (nat_le 1 number && nat_le number 252)
 
 -- it is the note of a block in a range of keys
-pub record Notes (blocks place : ℕ) (block : List ℕ) (range : Range) (note : Note) : Type 0 where
+pub record Notes (blocks place : ℕ) (block : List ℕ) (range : Range) (note : LeafNote) : Type 0 where
   pub at : note.block ≡ place
   pub mappings : noted note ≡ saved_at blocks place block range
   pub full : note.full ≡ is_all_of block (noted note)
@@ -75,10 +106,18 @@ abbrev pub in_keys : Range → List Mapping → List Mapping
 in_keys range ms = filter (λ (m : Mapping). is_in_range range m.virtual_block) ms
 
 -- what a visit of a noted leaf meets in a range of keys
-abbrev pub met_in : Note → Range → List Met
+abbrev pub met_in : LeafNote → Range → List Met
 met_in note range =
     let ms = in_keys range (noted note) in met_of (if note.full && (length ms == length (noted note)) then Some note.block else None) ms
 
 -- what a note of a device's own, or of all of its leaf, meets
-abbrev pub met_of_note : Note → List Met
+abbrev pub met_of_note : LeafNote → List Met
 met_of_note note = met_of (if note.full then Some note.block else None) (noted note)
+
+-- the numbers of a range
+abbrev pub range_numbers : NumberRange → List ℕ
+range_numbers r = map (λ i. (r.first + i) % 2 ^ 32) (range_with_len 0 r.count)
+
+-- and those of ranges, of which one is the last
+abbrev pub numbers_in : List NumberRange → NumberRange → List ℕ
+numbers_in done last = flat_map range_numbers done ++ range_numbers last

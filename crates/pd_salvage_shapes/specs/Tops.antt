@@ -1,22 +1,27 @@
 -- The devices whose mappings are saved.
-use Rattle.std.specs.Prelude.{◌≡◌, ℕ, ◌+◌, ◌/◌, ◌%◌, ◌^◌, ◌<◌, ◌≤◌, not, List, [], ◌∷◌, ◌++◌, map, filter, Option, IfSome}
+-- What was met of devices.
+use Rattle.std.specs.Prelude.{◌≡◌, ℕ, ◌+◌, ◌/◌, ◌%◌, ◌^◌, ◌<◌, ◌≤◌, not, List, [], ◌∷◌, ◌++◌, map, filter, Option, IfSome, length, take, slice_index_or}
 use Rattle.std.specs.List.{AllByRecursion}
-use Rattle.pd_kinds.specs.Edge.{is_outside}
+use Rattle.pd_kinds.specs.Graph.{is_outside}
 use Rattle.pd_kinds.specs.Node.{Entry}
-use Rattle.pd_kinds.specs.ThinSuper.{ThinFields}
-use Rattle.pd_laid.specs.Salvage.{salvaged_details, salvaged_entries}
-use Rattle.pd_shapes.specs.SavedShape.{saved_tops}
+use Rattle.pd_kinds.specs.ThinFormat.{ThinFields}
+use Rattle.pd_laid.specs.Salvage.{salvaged_details, salvaged_entries, saved_tops}
 use Rattle.pd_value.specs.declared.thin.Details.{Details}
 use Rattle.pd_value.specs.declared.thin.Root.{Root}
-use Rattle.pd_tree.specs.Items.{item_of, root_of}
+use Rattle.pd_tree.specs.Cursor.{item_of, root_of}
 use Rattle.pd_tree.specs.Search.{lookup}
-use Rattle.pd_thin_meaning.specs.Items.{details_of}
+use Rattle.pd_meaning_thin.specs.Runs.{details_of}
 use Rattle.pd_salvage.specs.declared.cursor.SavedCursor.{SavedCursor}
 use Rattle.pd_salvage.specs.declared.details.SavedDetails.{SavedDetails}
 use Rattle.pd_salvage.specs.Cursor.{saved_least, saved_left, saved_room}
 use Rattle.pd_salvage.specs.Details.{IsFoundOr, details_left, details_room}
 use Rattle.pd_salvage.specs.Saving.{FitLost, all_details, entry_of, lost_details}
 use Rattle.pd_salvage_shapes.specs.declared.tops.Top.{Top}
+use Rattle.pd_salvage_shapes.specs.declared.note.LeafNote.{LeafNote}
+use Rattle.pd_salvage_shapes.specs.declared.visiting.Seen.{Seen}
+use Rattle.pd_salvage_shapes.specs.declared.visiting.Visiting.{Visiting}
+use Rattle.pd_salvage_shapes.specs.Note.{Met, mets_of_root}
+use Rattle.pd_salvage_shapes.specs.Visiting.{HasTable, IsSeen, TellsAll, mets_of}
 
 -- the entry of a device in the mapping tree
 abbrev pub entry_of_top : Top → Entry
@@ -78,3 +83,33 @@ pub record ReadsTops (fields : ThinFields) (image : List (List ℕ)) (found : Li
   pub knows : (id : ℕ) → saved_least tops ≤ id → lookup id (details_left image details) ≡ lookup id (map (item_of details_of) (all_details fields image))
   pub all : map entry_of_top found ++ left_tops fields (saved_left 8 root_of image tops) ≡ saved_tops fields image
   pub own : AllByRecursion (HasDetails fields image) found
+
+-- what was met of each
+abbrev pub mets_of_seen : List LeafNote → List Seen → List (List Met)
+mets_of_seen notes seen = map (λ (d : Seen). mets_of notes d.met) seen
+
+abbrev pub mets_of_tops : ThinFields → List (List ℕ) → List Top → List (List Met)
+mets_of_tops fields image tops = map (λ (t : Top). mets_of_root fields image t.root) tops
+
+-- devices were seen: what was met of each is lawful, and it is what is met of each where the device tells
+pub record SeesAll (held : Option (List (List ℕ))) (tops : List Top) (seen : List Seen) (old new : Visiting) : Type 0 where
+  pub same : new.s ≡ old.s
+  pub table : HasTable new
+  pub number : length seen ≡ length tops
+  pub lawful : AllByRecursion (IsSeen old.s.data_map.blocks new.notes.items) seen
+  pub told : IfSome held (λ image. TellsAll image old → TellsAll image new × (mets_of_seen new.notes.items seen ≡ mets_of_tops old.s image tops))
+
+-- one device more was seen
+abbrev pub SeesNext : Option (List (List ℕ)) → List Top → ℕ → List Seen → List Seen → Visiting → Visiting → Type 0
+SeesNext held tops i before seen old new =
+    (first : Visiting) → SeesAll held (take i tops) before first old → SeesAll held (take (i + 1) tops) seen first new
+
+-- the device with a number, and what was met of it
+abbrev pub top_at : List Top → ℕ → Top
+top_at tops i = slice_index_or tops i no_top
+
+abbrev pub no_seen : Seen
+no_seen = record { met = []; mapped = 0 }
+
+abbrev pub seen_at : List Seen → ℕ → Seen
+seen_at seen k = slice_index_or seen k no_seen

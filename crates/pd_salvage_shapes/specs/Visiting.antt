@@ -1,55 +1,51 @@
 -- The leaves that were noted, and what was met of a device.
 use Rattle.std.specs.Prelude.{◌≡◌, ℕ, suc, ◌+◌, ◌-◌, ◌^◌, ◌<◌, ◌≤◌, ◌&&◌, Bool, true, false, not, nat_lt, List, [], ◌∷◌, ◌++◌, length, slice_index, Option, Some, None, IfSome}
 use Rattle.std.specs.List.{AllByRecursion, flat_map, slice_get}
-use Rattle.pd_kinds.specs.Edge.{is_outside}
-use Rattle.pd_kinds.specs.Graph.{block_at}
+use Rattle.pd_kinds.specs.Graph.{is_outside, block_at}
 use Rattle.pd_kinds.specs.Meaning.{Mapping}
-use Rattle.pd_kinds.specs.ThinSuper.{ThinFields}
-use Rattle.pd_spells.specs.Lawful.{AreMappings}
-use Rattle.pd_tree.specs.Stack.{child_weight, last_place}
-use Rattle.pd_salvage.specs.declared.range.Range.{Range}
-use Rattle.pd_salvage.specs.Range.{is_in_range}
-use Rattle.pd_laid.specs.Salvage.{is_damaged}
+use Rattle.pd_kinds.specs.ThinFormat.{ThinFields}
 use Rattle.pd_kinds.specs.Node.{is_inner_node}
+use Rattle.pd_grammar.specs.Lawful.{AreMappings}
+use Rattle.pd_laid.specs.Salvage.{is_damaged}
+use Rattle.pd_tree.specs.Stack.{child_weight, last_place}
+use Rattle.pd_salvage.specs.declared.way.Range.{Range}
+use Rattle.pd_salvage.specs.Range.{is_in_range}
 use Rattle.pd_salvage.specs.declared.way.Way.{Way}
-use Rattle.pd_salvage.specs.Known.{KnowsNothing, KnowsPlaces}
-use Rattle.pd_salvage.specs.Steps.{PopsNode, SameWay}
-use Rattle.pd_salvage.specs.Way.{way_number}
-use Rattle.pd_salvage_shapes.specs.declared.note.Note.{Note}
+use Rattle.pd_salvage.specs.Way.{KnowsNothing, KnowsPlaces, PopsNode, SameWay, way_number}
+use Rattle.pd_salvage_shapes.specs.declared.note.LeafNote.{LeafNote}
 use Rattle.pd_salvage_shapes.specs.declared.visiting.Seen.{Seen}
 use Rattle.pd_salvage_shapes.specs.declared.visiting.Visiting.{Visiting}
-use Rattle.pd_salvage_shapes.specs.Mets.{Met, mets_below, mets_of_root, way_left}
-use Rattle.pd_salvage_shapes.specs.Note.{IsNote, in_keys, met_in, met_of_note, noted, saved_at}
+use Rattle.pd_salvage_shapes.specs.Note.{Met, mets_below, mets_of_root, way_left, IsNote, in_keys, met_in, met_of_note, noted, saved_at}
 
 -- the mappings of what was met
 abbrev pub maps : List Met → List Mapping
 maps mets = flat_map (λ (m : Met). m.mappings) mets
 
 -- what the notes with some numbers met
-abbrev pub mets_at : Option Note → List Met
+abbrev pub mets_at : Option LeafNote → List Met
 mets_at None = []
 mets_at (Some note) = met_of_note note
 
-abbrev pub mets_of : List Note → List ℕ → List Met
+abbrev pub mets_of : List LeafNote → List ℕ → List Met
 mets_of notes numbers = flat_map (λ k. mets_at (slice_get notes k)) numbers
 
 -- the notes are notes, and those of whole leaves are named at their blocks, each by one above its number
-pub record AreNotes (blocks : ℕ) (places : List ℕ) (notes : List Note) : Type 0 where
-  pub each : (k : ℕ) (note : Note) → slice_get notes k ≡ Some note → IsNote blocks note
-  pub placed : (k : ℕ) (note : Note) → slice_get notes k ≡ Some note → note.full ≡ true → slice_index places note.block ≡ k + 1
+pub record AreNotes (blocks : ℕ) (places : List ℕ) (notes : List LeafNote) : Type 0 where
+  pub each : (k : ℕ) (note : LeafNote) → slice_get notes k ≡ Some note → IsNote blocks note
+  pub placed : (k : ℕ) (note : LeafNote) → slice_get notes k ≡ Some note → note.full ≡ true → slice_index places note.block ≡ k + 1
   pub named : (b : ℕ) → slice_index places b ≤ length notes
 
 -- a note tells of a leaf what is met of it in any range
-pub record TellsLeaf (fields : ThinFields) (image : List (List ℕ)) (b : ℕ) (note : Note) : Type 0 where
+pub record TellsLeaf (fields : ThinFields) (image : List (List ℕ)) (b : ℕ) (note : LeafNote) : Type 0 where
   pub meets : (j : ℕ) (range : Range) → is_outside fields.meta_map.blocks b ≡ false → mets_below fields image (suc j) range b ≡ met_in note range
   pub saves : (range : Range) → saved_at fields.data_map.blocks b (block_at image b) range ≡ in_keys range (noted note)
 
 -- the notes that are named tell of their leaves
-abbrev pub Tells : ThinFields → List (List ℕ) → List ℕ → List Note → Type 0
-Tells fields image places notes = (b k : ℕ) (note : Note) → slice_index places b ≡ suc k → slice_get notes k ≡ Some note → TellsLeaf fields image b note
+abbrev pub Tells : ThinFields → List (List ℕ) → List ℕ → List LeafNote → Type 0
+Tells fields image places notes = (b k : ℕ) (note : LeafNote) → slice_index places b ≡ suc k → slice_get notes k ≡ Some note → TellsLeaf fields image b note
 
 -- notes with these numbers were met, with so many mappings, and mappings from a key on may follow
-pub record AreMet (blocks : ℕ) (notes : List Note) (met : List ℕ) (mapped least : ℕ) : Type 0 where
+pub record AreMet (blocks : ℕ) (notes : List LeafNote) (met : List ℕ) (mapped least : ℕ) : Type 0 where
   pub within : AllByRecursion (λ k. k < length notes) met
   pub lawful : (rest : List Mapping) → AreMappings blocks least rest → AreMappings blocks 0 (maps (mets_of notes met) ++ rest)
   pub counted : mapped ≡ length (maps (mets_of notes met))
@@ -67,21 +63,21 @@ abbrev pub mets_now : Visiting → List Met
 mets_now v = mets_of v.notes.items v.met.items
 
 -- notes that were there stay as they are
-abbrev pub Grow : List Note → List Note → Type 0
-Grow old new = (k : ℕ) (note : Note) → slice_get old k ≡ Some note → slice_get new k ≡ Some note
+abbrev pub Grow : List LeafNote → List LeafNote → Type 0
+Grow old new = (k : ℕ) (note : LeafNote) → slice_get old k ≡ Some note → slice_get new k ≡ Some note
 
 -- a range without the keys below a number
 pub record IsRaised (least : ℕ) (range raised : Range) : Type 0 where
   pub keys : (key : ℕ) → key < 2 ^ 64 → is_in_range raised key ≡ (not (nat_lt key least) && is_in_range range key)
 
 -- a note was met: one without mappings changes nothing
-pub record TakesNote (k : ℕ) (note : Note) (old new : Visiting) : Type 0 where
+pub record TakesNote (k : ℕ) (note : LeafNote) (old new : Visiting) : Type 0 where
   pub same : (new.s ≡ old.s) × (new.way ≡ old.way) × (new.places ≡ old.places) × (new.notes ≡ old.notes)
   pub none : note.entries ≡ 0 → (new.met.items ≡ old.met.items) × (new.mapped ≡ old.mapped) × (new.least ≡ old.least)
   pub some : 1 ≤ note.entries → (new.met.items ≡ old.met.items ++ k ∷ []) × (new.mapped ≡ old.mapped + note.entries) × (new.least ≡ note.end)
 
 -- a note of the device's own was met
-pub record TakesOwn (note : Note) (old new : Visiting) : Type 0 where
+pub record TakesOwn (note : LeafNote) (old new : Visiting) : Type 0 where
   pub same : (new.s ≡ old.s) × (new.way ≡ old.way) × (new.places ≡ old.places)
   pub ready : IsReady new
   pub grow : Grow old.notes.items new.notes.items
@@ -126,7 +122,7 @@ ReadsNew held true b range old new = StaysOnWay held b range old new
 ReadsNew held false b range old new = IsNoted held b old new
 
 -- a part of a leaf was read
-pub record ReadsPart (held : Option (List (List ℕ))) (b : ℕ) (range : Range) (note : Note) (old new : Visiting) : Type 0 where
+pub record ReadsPart (held : Option (List (List ℕ))) (b : ℕ) (range : Range) (note : LeafNote) (old new : Visiting) : Type 0 where
   pub same : new ≡ record old { way = new.way }
   pub way : SameWay 8 old.way new.way
   pub sound : IsNote old.s.data_map.blocks note
@@ -195,7 +191,7 @@ pub record MeetsTree (held : Option (List (List ℕ))) (root : ℕ) (old new : V
   pub told : IfSome held (λ image. TellsAll image old → TellsAll image new × (mets_now new ≡ mets_of_root old.s image root))
 
 -- what was met of a device is lawful
-pub record IsSeen (blocks : ℕ) (notes : List Note) (seen : Seen) : Type 0 where
+pub record IsSeen (blocks : ℕ) (notes : List LeafNote) (seen : Seen) : Type 0 where
   pub within : AllByRecursion (λ k. k < length notes) seen.met
   pub lawful : AreMappings blocks 0 (maps (mets_of notes seen.met))
   pub counted : seen.mapped ≡ length (maps (mets_of notes seen.met))

@@ -1,6 +1,7 @@
-//! What is saved of a leaf.
+//! What is saved of a leaf (`thin_repair`, `thin_shrink`).
 
-ghost use Rattle.std.specs.Prelude.{◌≡◌, ◌∷◌, ◌<◌, ◌^◌, ◌==◌, ◌&&◌, ◌||◌, not, nat_lt, nat_le, [], List, IfOk, OnOk, false, true, if◌then◌else◌, length, map, ℕ};
+ghost use Rattle.std.specs.Prelude.{◌≡◌, ◌∷◌, ◌<◌, ◌^◌, ◌==◌, ◌&&◌, ◌||◌, not, nat_lt, nat_le, [], List, IfOk};
+ghost use Rattle.std.specs.Prelude.{OnOk, false, true, if◌then◌else◌, length, map, ℕ};
 ghost use Rattle.std.specs.List.{range_with_len};
 ghost use Rattle.pd_kinds.specs.Meaning.{Mapping};
 ghost use Rattle.pd_kinds.specs.Node.{entry_count, is_inner_node, key_at, value_at};
@@ -8,10 +9,9 @@ ghost use Rattle.pd_salvage.specs.Range.{is_in_range};
 ghost use Rattle.pd_salvage_shapes.specs.Note.{IsGathered, IsNote, Notes, in_keys, noted, saved_in};
 
 use pd_kinds::Block;
+use pd_meaning_thin::{PackedRuns, Run};
 use pd_node::{entries, is_inner, key, value};
-use pd_runs::PackedRuns;
 use pd_salvage::{Joining, Range, is_sound};
-use pd_thin_meaning::Run;
 use pd_value::BlockTime;
 use std::alloc::{AllocError, Global};
 
@@ -20,7 +20,7 @@ const MAX_LEAF_MAPPINGS: u64 = 252;
 
 /// What is saved of a leaf in a range of keys.
 #[derive(Drop)]
-pub(crate) struct Note {
+pub(crate) struct LeafNote {
     /// The leaf's block.
     pub(crate) block: u64,
     /// Whether these are all mappings of the leaf, of which it has 1 to 252.
@@ -43,11 +43,12 @@ pub(crate) struct LeafGathering {
     end: u128,
 }
 
-impl Note {
+impl LeafNote {
     /// Whether all of it lies in a range of keys.
     pub(crate) fn lies_in(&self, range: &Range) -> bool
         ensures inside { (blocks : ℕ) → IsNote blocks self.now → result ≡ true → in_keys range.now (noted self.now) ≡ noted self.now }
-        ensures outside { (blocks : ℕ) → IsNote blocks self.now → result ≡ false → length (in_keys range.now (noted self.now)) < length (noted self.now) }
+        ensures outside { (blocks : ℕ) → IsNote blocks self.now
+            → result ≡ false → length (in_keys range.now (noted self.now)) < length (noted self.now) }
     {
         is_between(self.entries, self.first, self.end, range)
     }
@@ -57,7 +58,7 @@ impl LeafGathering {
     ghost use Rattle.std.specs.Prelude.{◌≡◌, ◌++◌, ◌∷◌, ◌<◌, ◌^◌, [], List, OnOk, false};
     ghost use Rattle.pd_kinds.specs.Meaning.{Mapping};
     ghost use Rattle.pd_kinds.specs.Node.{entry_count, is_inner_node, key_at, value_at};
-    ghost use Rattle.pd_thin_meaning.specs.Joined.{mapping_of};
+    ghost use Rattle.pd_meaning_thin.specs.Runs.{mapping_of};
     ghost use Rattle.pd_salvage_shapes.specs.Note.{IsGathered, saved_in};
 
     /// Takes the next mapping.
@@ -68,7 +69,8 @@ impl LeafGathering {
         mapping: BlockTime,
     ) -> Result<(), AllocError>
         requires { mapping.block < 2 ^ 40 }
-        ensures { OnOk result ((ms : List Mapping) → IsGathered runs.old self.old ms → IsGathered runs.new self.new (ms ++ mapping_of (virt, mapping) ∷ [])) }
+        ensures { OnOk result ((ms : List Mapping) → IsGathered runs.old self.old ms
+            → IsGathered runs.new self.new (ms ++ mapping_of (virt, mapping) ∷ [])) }
     {
         if self.mapped == u64::MAX {
             return Err(AllocError);
@@ -101,7 +103,8 @@ impl LeafGathering {
         requires within { i < entry_count 8 block.now.0 }
         requires leaf { is_inner_node block.now.0 ≡ false }
         ensures takes { OnOk result ((ms : List Mapping) → IsGathered runs.old self.old ms
-            → IsGathered runs.new self.new (ms ++ saved_in blocks range.now (record { key = key_at block.now.0 i; value = value_at 8 block.now.0 i } ∷ []))) }
+            → IsGathered runs.new self.new (ms ++ saved_in blocks range.now
+            (record { key = key_at block.now.0 i; value = value_at 8 block.now.0 i } ∷ []))) }
         ensures fits { key_at block.now.0 i < 2 ^ 64 }
     {
         let virt = key::<BlockTime>(block, i);
@@ -154,7 +157,8 @@ fn gather_leaf(
     requires empty { runs.old ≡ [] }
     requires leaf { is_inner_node block.now.0 ≡ false }
     ensures gathered { IfOk result (λ gathering. IsGathered runs.new gathering
-        (saved_in blocks range.now (map (λ i. record { key = key_at block.now.0 i; value = value_at 8 block.now.0 i }) (range_with_len 0 (entry_count 8 block.now.0))))) }
+        (saved_in blocks range.now (map (λ i. record { key = key_at block.now.0 i; value = value_at 8 block.now.0 i })
+        (range_with_len 0 (entry_count 8 block.now.0))))) }
     ensures fits { OnOk result ((i : ℕ) → i < entry_count 8 block.now.0 → key_at block.now.0 i < 2 ^ 64) }
 {
     let mut gathering = LeafGathering {
@@ -176,7 +180,7 @@ pub(crate) fn note_of(
     place: u64,
     range: &Range,
     blocks: u64,
-) -> Result<Note, AllocError>
+) -> Result<LeafNote, AllocError>
     ensures notes { IfOk result (Notes blocks place block.now.0 range.now) }
     ensures sound { IfOk result (IsNote blocks) }
 {
@@ -190,7 +194,7 @@ pub(crate) fn note_of(
     let mut gathering = gather_leaf(block, range, blocks, &mut runs)?;
     gathering.joining.end(&mut runs)?;
     let full = is_all(gathering.mapped, entries::<BlockTime>(block) as u64);
-    Ok(Note {
+    Ok(LeafNote {
         block: place,
         full,
         entries: gathering.mapped,
@@ -201,13 +205,13 @@ pub(crate) fn note_of(
 }
 
 /// The note of a leaf of which nothing is saved.
-fn no_note(alloc: Global, place: u64) -> Note
+fn no_note(alloc: Global, place: u64) -> LeafNote
     ensures none { noted result ≡ [] }
     ensures at { result.block ≡ place }
     ensures part { result.full ≡ false }
     ensures sound { (blocks : ℕ) → IsNote blocks result }
 {
-    Note {
+    LeafNote {
         block: place,
         full: false,
         entries: 0,

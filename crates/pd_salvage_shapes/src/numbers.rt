@@ -1,7 +1,7 @@
-//! The numbers of the notes that a device met, held as ranges.
+//! The numbers of the notes that a device met, held as ranges (`thin_repair`, `thin_shrink`).
 
 ghost use Rattle.std.specs.Prelude.{◌≡◌, ◌++◌, IfOk, OnOk};
-ghost use Rattle.pd_salvage_shapes.specs.Numbers.{numbers_in, range_numbers};
+ghost use Rattle.pd_salvage_shapes.specs.Note.{numbers_in, range_numbers};
 
 use std::alloc::{AllocError, Global};
 use std::marker::Model;
@@ -25,7 +25,7 @@ pub(crate) struct Numbers {
 
 impl Model for Numbers {
     ghost use Rattle.std.specs.Prelude.{List, ℕ};
-    ghost use Rattle.pd_salvage_shapes.specs.Numbers.{numbers_in};
+    ghost use Rattle.pd_salvage_shapes.specs.Note.{numbers_in};
 
     ghost Value = { List ℕ };
 

@@ -1,12 +1,18 @@
-//! The pieces of what was met of devices.
+//! The pieces of what was met of devices (`thin_repair`, `thin_shrink`).
 
-ghost use Rattle.std.specs.Prelude.{◌≡◌, ◌<◌, ℕ, List, Some, None, true, false, if◌then◌else◌, length};
+ghost use Rattle.std.specs.Prelude.{◌≡◌, ◌<◌, ℕ, List, Some, None, true, false, if◌then◌else◌, length, IfOk};
 ghost use Rattle.pd_salvage_shapes.specs.Pieces.{AreNumbers, above, number_of_leaf};
+ghost use Rattle.pd_salvage_shapes.specs.SeenShape.{AreShaped, AllWithin, AreSized};
 
-use crate::note::Note;
-use pd_runs::PackedRuns;
-use pd_salvage::{Joining, PackedPiece, SavedPiece, add_piece};
+use crate::note::LeafNote;
+use crate::numbers::Numbers;
+use crate::tops::Top;
+use crate::visiting::Seen;
+use pd_meaning_thin::PackedRuns;
+use pd_salvage::{Joining, PackedPiece, SavedPiece, ShapedDevice, add_piece};
+use pd_value::Details;
 use std::alloc::{AllocError, Global};
+use std::mem;
 
 /// The pieces and the runs that were made, and the piece of a device's own that was begun.
 #[derive(Drop)]
@@ -19,13 +25,13 @@ pub(crate) struct Piecing {
 }
 
 impl Piecing {
-    ghost use Rattle.std.specs.Prelude.{◌≡◌, ◌≤◌, List, [], length, IfOk, OnOk};
+    ghost use Rattle.std.specs.Prelude.{◌≡◌, List, [], length, IfOk, OnOk};
     ghost use Rattle.pd_kinds.specs.Meaning.{Mapping};
-    ghost use Rattle.pd_thin_meaning.specs.declared.joined.Run.{Run};
+    ghost use Rattle.pd_meaning_thin.specs.declared.joined.Run.{Run};
     ghost use Rattle.pd_salvage.specs.Gather.{IsJoining, Takes, mappings_of_runs};
-    ghost use Rattle.pd_salvage_shapes.specs.Devices.{TakesDevice};
+    ghost use Rattle.pd_salvage_shapes.specs.SeenShape.{TakesDevice};
     ghost use Rattle.pd_salvage_shapes.specs.Pieces.{AreRuns, EndsOwn, IsIdle, TakesMet};
-    ghost use Rattle.pd_salvage_shapes.specs.Uses.{AreSized, AreWithin};
+    ghost use Rattle.pd_salvage_shapes.specs.SeenShape.{AreSized, AreWithin};
 
     /// No piece, with room for so many.
     pub(crate) fn with_room(alloc: Global, pieces: usize) -> Result<Piecing, AllocError>
@@ -55,7 +61,8 @@ impl Piecing {
 
     /// Ends the begun piece.
     fn end_own(&mut self) -> Result<(), AllocError>
-        ensures ends { OnOk result ((before : List Run) (ms : List Mapping) → IsJoining before self.old.runs self.old.joining ms → self.old.first ≡ length before
+        ensures ends { OnOk result ((before : List Run) (ms : List Mapping)
+            → IsJoining before self.old.runs self.old.joining ms → self.old.first ≡ length before
             → EndsOwn self.old self.new before ms) }
         ensures idle { OnOk result (IsIdle self.new) }
     {
@@ -74,7 +81,7 @@ impl Piecing {
     }
 
     /// Takes a note: all of the shared leaf with the number below this, or of the device's own where this is 0.
-    fn take_met(&mut self, note: &Note, number: u32) -> Result<(), AllocError>
+    fn take_met(&mut self, note: &LeafNote, number: u32) -> Result<(), AllocError>
         requires { AreRuns note.now.runs }
         ensures { OnOk result (TakesMet note.now number self.old self.new) }
     {
@@ -90,7 +97,7 @@ impl Piecing {
     /// Takes all that a device met, and answers how many pieces that is.
     pub(crate) fn take_device(
         &mut self,
-        notes: &[Note],
+        notes: &[LeafNote],
         numbers: &[u32],
         met: &[u32],
     ) -> Result<usize, AllocError>
@@ -111,13 +118,97 @@ impl Piecing {
 }
 
 /// One above the number of a note's leaf among the shared ones, or 0.
-fn number_of(note: &Note, numbers: &[u32]) -> u32
+fn number_of(note: &LeafNote, numbers: &[u32]) -> u32
     requires { note.now.full ≡ true → note.now.block < length numbers.now }
-    ensures number { (ones : List ℕ) → AreNumbers ones numbers.now → result ≡ above (number_of_leaf ones (if note.now.full then Some note.now.block else None)) }
+    ensures number { (ones : List ℕ) → AreNumbers ones numbers.now
+        → result ≡ above (number_of_leaf ones (if note.now.full then Some note.now.block else None)) }
     ensures whole { note.now.full ≡ false → result ≡ 0 }
 {
     if !note.full {
         return 0;
     }
     numbers[note.block as usize]
+}
+
+// Devices with their pieces (`thin_repair`, `thin_shrink`).
+
+/// Devices, and the pieces and runs of all of them.
+#[derive(Drop)]
+pub(crate) struct ShapedDevices {
+    pub(crate) devices: Vec<ShapedDevice>,
+    pub(crate) piecing: Piecing,
+}
+
+impl ShapedDevices {
+    ghost use Rattle.std.specs.Prelude.{length, OnOk};
+    ghost use Rattle.pd_salvage_shapes.specs.SeenShape.{AddsDevice};
+    ghost use Rattle.pd_salvage_shapes.specs.Pieces.{IsIdle};
+    ghost use Rattle.pd_salvage_shapes.specs.SeenShape.{AreSized, AreWithin};
+
+    /// Adds a device with what it met.
+    fn add(
+        &mut self,
+        alloc: Global,
+        notes: &[LeafNote],
+        numbers: &[u32],
+        top: &Top,
+        seen: &Seen,
+    ) -> Result<(), AllocError>
+        requires sized { AreSized (length numbers.now) notes.now }
+        requires within { AreWithin notes.now seen.now.met }
+        requires idle { IsIdle self.old.piecing }
+        ensures { OnOk result (AddsDevice notes.now numbers.now top.now seen.now self.old self.new) }
+    {
+        let met = seen.met.list(alloc)?;
+        let pieces = self.piecing.take_device(notes, numbers, met.as_slice())?;
+        self.devices.push(ShapedDevice {
+            id: top.id,
+            details: Details {
+                mapped: seen.mapped,
+                transaction: top.details.transaction,
+                created: top.details.created,
+                snapped: top.details.snapped,
+            },
+            pieces,
+        })?;
+        Ok(())
+    }
+}
+
+/// How many notes devices met. They have no more pieces.
+fn count_met(seen: &[Seen]) -> usize {
+    let mut count = 0usize;
+    for device in seen {
+        count = count.saturating_add(device.met.count());
+    }
+    count
+}
+
+/// The devices with the pieces of what they met, of which each list is freed once its pieces are made.
+pub(crate) fn shape_devices(
+    alloc: Global,
+    notes: &[LeafNote],
+    numbers: &[u32],
+    tops: &[Top],
+    seen: &mut [Seen],
+) -> Result<ShapedDevices, AllocError>
+    requires sized { AreSized (length numbers.now) notes.now }
+    requires within { AllWithin notes.now seen.old }
+    requires each { length seen.old ≡ length tops.now }
+    ensures { IfOk result (λ shaped. (ones : List ℕ) → AreNumbers ones numbers.now → AreShaped ones notes.now tops.now seen.old shaped) }
+{
+    let piecing = Piecing::with_room(alloc, count_met(seen))?;
+    let mut shaped = ShapedDevices {
+        devices: Vec::new(alloc),
+        piecing,
+    };
+    for i in 0..tops.len() {
+        let none = Seen {
+            met: Numbers::none(alloc),
+            mapped: 0,
+        };
+        let one = mem::replace(&mut seen[i], none);
+        shaped.add(alloc, notes, numbers, &tops[i], &one)?;
+    }
+    Ok(shaped)
 }

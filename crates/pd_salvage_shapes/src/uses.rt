@@ -1,11 +1,11 @@
-//! How often leaves are met whole.
+//! How often leaves are met whole (`thin_repair`, `thin_shrink`).
 
 ghost use Rattle.std.specs.Prelude.{◌≡◌, ℕ, ◌+◌, ◌<◌, ◌≤◌, ◌++◌, ◌∷◌, List, [], true, length, min, replicate, IfOk, OnOk};
 ghost use Rattle.pd_salvage_shapes.specs.Note.{met_of_note, noted};
-ghost use Rattle.pd_salvage_shapes.specs.Uses.{AllWithin, AreSized, AreUses, AreWithin, all_mets, leaves_of};
+ghost use Rattle.pd_salvage_shapes.specs.SeenShape.{AllWithin, AreSized, AreUses, AreWithin, all_mets, leaves_of};
 ghost use Rattle.pd_salvage_shapes.specs.Visiting.{mets_of};
 
-use crate::note::Note;
+use crate::note::LeafNote;
 use crate::visiting::Seen;
 use std::alloc::{AllocError, Global};
 
@@ -28,7 +28,7 @@ fn count_use(uses: &mut [u8], block: u64)
 }
 
 /// Counts what a note met.
-fn count_note(uses: &mut [u8], note: &Note)
+fn count_note(uses: &mut [u8], note: &LeafNote)
     requires within { note.now.full ≡ true → note.now.block < length uses.old }
     requires some { note.now.full ≡ true → 1 ≤ length (noted note.now) }
     ensures counted { (blocks : List ℕ) → AreUses blocks uses.old → AreUses (blocks ++ leaves_of (met_of_note note.now)) uses.new }
@@ -41,7 +41,7 @@ fn count_note(uses: &mut [u8], note: &Note)
 }
 
 /// Counts what a device met.
-fn count_device(uses: &mut [u8], notes: &[Note], met: &[u32])
+fn count_device(uses: &mut [u8], notes: &[LeafNote], met: &[u32])
     requires sized { AreSized (length uses.old) notes.now }
     requires within { AreWithin notes.now met.now }
     ensures counted { (blocks : List ℕ) → AreUses blocks uses.old → AreUses (blocks ++ leaves_of (mets_of notes.now met.now)) uses.new }
@@ -56,7 +56,7 @@ fn count_device(uses: &mut [u8], notes: &[Note], met: &[u32])
 fn count_devices(
     alloc: Global,
     uses: &mut [u8],
-    notes: &[Note],
+    notes: &[LeafNote],
     seen: &[Seen],
 ) -> Result<(), AllocError>
     requires sized { AreSized (length uses.old) notes.now }
@@ -76,7 +76,7 @@ fn count_devices(
 pub(crate) fn count_all(
     alloc: Global,
     blocks: u64,
-    notes: &[Note],
+    notes: &[LeafNote],
     seen: &[Seen],
 ) -> Result<Vec<u8>, AllocError>
     requires few { blocks ≤ 4161600 }

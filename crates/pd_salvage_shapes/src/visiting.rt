@@ -1,9 +1,9 @@
-//! The visits of a device's leaves: what each saves is noted, by its leaf or as a part.
+//! The visits of a device's leaves: what each saves is noted, by its leaf or as a part (`thin_repair`, `thin_shrink`).
 
 ghost use Rattle.std.specs.Prelude.{◌≡◌, false};
 ghost use Rattle.pd_salvage_shapes.specs.Visiting.{IsRaised, is_undamaged_inner};
 
-use crate::note::{Note, note_of};
+use crate::note::{LeafNote, note_of};
 use crate::numbers::Numbers;
 use pd_image::Device;
 use pd_kinds::{Block, ThinSuper};
@@ -23,7 +23,7 @@ pub(crate) struct Visiting {
     way: Way,
     /// By each metadata block one above the number of its leaf's note, or 0.
     pub(crate) places: Vec<u32>,
-    pub(crate) notes: Vec<Note>,
+    pub(crate) notes: Vec<LeafNote>,
     /// The numbers of the notes that were met.
     pub(crate) met: Vec<u32>,
     /// How many mappings these have.
@@ -56,7 +56,7 @@ impl Seen {
 }
 
 impl Visiting {
-    ghost use Rattle.std.specs.Prelude.{◌≡◌, ℕ, ◌+◌, ◌-◌, ◌^◌, ◌<◌, ◌≤◌, ◌∷◌, [], ◌++◌, List, Some, true, false, length, slice_index, IfOk, IfSome, OnOk};
+    ghost use Rattle.std.specs.Prelude.{◌≡◌, ◌<◌, ◌≤◌, Some, true, false, length, slice_index, IfOk, OnOk};
     ghost use Rattle.std.specs.List.{slice_get};
     ghost use Rattle.std.specs.Vec.{vec_len};
     ghost use Rattle.pd_kinds.specs.Node.{is_inner_node};
@@ -64,11 +64,12 @@ impl Visiting {
     ghost use Rattle.pd_tree.specs.Stack.{last_place};
     ghost use Rattle.pd_salvage.specs.Range.{is_wanted};
     ghost use Rattle.pd_image.specs.Device.{IsAttached, OnlyReads};
-    ghost use Rattle.pd_salvage.specs.Faults.{CountsSalvage};
-    ghost use Rattle.pd_spells.specs.Lawful.{AreMappings};
-    ghost use Rattle.pd_salvage_shapes.specs.declared.note.Note.{Note};
+    ghost use Rattle.pd_salvage.specs.Saved.{CountsSalvage};
+    ghost use Rattle.pd_grammar.specs.Lawful.{AreMappings};
+    ghost use Rattle.pd_salvage_shapes.specs.declared.note.LeafNote.{LeafNote};
     ghost use Rattle.pd_salvage_shapes.specs.Note.{IsNote, noted};
-    ghost use Rattle.pd_salvage_shapes.specs.Visiting.{IsReady, KnowsInner, Meets, NotesTop, ReadsNew, ReadsPart, TakesNote, TakesOwn, Visits};
+    ghost use Rattle.pd_salvage_shapes.specs.Visiting.{IsReady, KnowsInner, Meets, NotesTop, ReadsNew};
+    ghost use Rattle.pd_salvage_shapes.specs.Visiting.{ReadsPart, TakesNote, TakesOwn, Visits};
 
     /// One above the number of the note of the block's leaf, or 0.
     fn number(&self, b: u64) -> u32
@@ -81,7 +82,7 @@ impl Visiting {
     /// Meets the note with this number.
     fn take(&mut self, k: u32) -> Result<(), AllocError>
         requires { k < vec_len self.old.notes }
-        ensures { OnOk result ((note : Note) → slice_get self.old.notes.items k ≡ Some note → TakesNote k note self.old self.new) }
+        ensures { OnOk result ((note : LeafNote) → slice_get self.old.notes.items k ≡ Some note → TakesNote k note self.old self.new) }
     {
         let note = &self.notes[k as usize];
         let entries = note.entries;
@@ -99,7 +100,7 @@ impl Visiting {
     }
 
     /// Meets a note of the device's own.
-    fn take_own(&mut self, note: Note) -> Result<(), AllocError>
+    fn take_own(&mut self, note: LeafNote) -> Result<(), AllocError>
         requires ready { IsReady self.old }
         requires sound { IsNote self.old.s.data_map.blocks note }
         requires part { note.full ≡ false }
@@ -121,7 +122,8 @@ impl Visiting {
         requires ready { IsReady self.old }
         requires within { b < length self.old.places.items }
         requires unread { slice_index self.old.places.items b ≡ 0 }
-        requires leaf { is_damaged 8 b (last_place self.old.way.stack).block.0 ≡ false → is_inner_node (last_place self.old.way.stack).block.0 ≡ false }
+        requires leaf { is_damaged 8 b (last_place self.old.way.stack).block.0 ≡ false
+            → is_inner_node (last_place self.old.way.stack).block.0 ≡ false }
         ensures { OnOk result (NotesTop b self.old self.new) }
     {
         let all = Range {
@@ -176,7 +178,7 @@ impl Visiting {
         dev: &mut D,
         b: u64,
         range: Range,
-    ) -> Result<Note, SalvageFault>
+    ) -> Result<LeafNote, SalvageFault>
         requires attached { IsAttached (D.state dev.old) }
         requires within { b < (D.state dev.old).blocks }
         requires room { self.old.way.stack.depth < 64 }
@@ -246,7 +248,7 @@ impl Visiting {
 impl Visiting {
     ghost use Rattle.std.specs.Prelude.{◌≡◌, ◌^◌, ◌<◌, ◌≤◌, IfOk, OnOk};
     ghost use Rattle.pd_image.specs.Device.{IsAttached, OnlyReads};
-    ghost use Rattle.pd_salvage.specs.Faults.{CountsSalvage};
+    ghost use Rattle.pd_salvage.specs.Saved.{CountsSalvage};
     ghost use Rattle.pd_salvage_shapes.specs.Visiting.{GoesOn, HasTable, IsBegun, IsReady, IsStarted, KnowsInner, MeetsTree, SeesDevice};
 
     /// No leaf was noted, in a pool with this superblock.
@@ -351,7 +353,7 @@ fn is_sound_inner(block: &Block, place: u64) -> bool
 }
 
 /// The note as one of a device's own.
-fn part_of(note: Note) -> Note
+fn part_of(note: LeafNote) -> LeafNote
     ensures { result ≡ record note { full = false } }
 {
     let mut note = note;

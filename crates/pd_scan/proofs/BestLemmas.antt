@@ -3,11 +3,9 @@ use Rattle.std.proofs.Common.{◌≡◌, ◌⊎◌, inl, inr, ℕ, zero, suc, �
 use Rattle.std.specs.List.{AllByRecursion, cons_option, filter_map, range_with_len}
 use Rattle.std.proofs.lemmas.Bool.{both_ways, cases_eq, false_from_ne_true}
 use Rattle.pd_laid.specs.FoundRoots.{FoundRoots, is_better, is_greater, score_of}
-use Rattle.pd_answers.specs.States.{best_of, better_of_two, in_order, placed}
-use Rattle.pd_scan.specs.Pairs.{IsBest, IsBestOf, better_of}
-use Rattle.pd_scan.specs.States.{best_among, first_of}
-use Rattle.pd_scan.proofs.OrderLemmas.{first_parts, not_better_self}
-use Rattle.pd_scan.proofs.PairLemmas.{best_of_both}
+use Rattle.pd_answers.specs.NamedRepairs.{best_of, better_of_two, in_order, placed}
+use Rattle.pd_scan.specs.Pairs.{IsBest, IsBestOf, better_of, best_among, first_of}
+use Rattle.pd_scan.proofs.PairLemmas.{first_parts, not_better_self, best_of_both}
 
 -- lists of one length of which none is greater are one
 same_lists : (xs ys : List ℕ) → length xs ≡ length ys → is_greater xs ys ≡ false → is_greater ys xs ≡ false → xs ≡ ys

@@ -4,25 +4,22 @@ use Rattle.std.specs.List.{list_any, list_all, flat_map, range_with_len, AllByRe
 use Rattle.std.proofs.lemmas.Bool.{and_parts, not-true}
 use Rattle.std.proofs.lemmas.List.{length-map}
 use Rattle.pd_kinds.specs.Rule.{all_rules}
-use Rattle.pd_kinds.specs.Edge.{Edge}
+use Rattle.pd_kinds.specs.Graph.{Edge, Graph, block_at, pair, block_of, role_of, edges_of, next as next_of, own_keys, is_inner_pair, children, gathered, keys_below}
 use Rattle.pd_kinds.specs.Image.{HasBytes}
 use Rattle.pd_kinds.specs.Node.{Entry, entry_count, is_inner_node, key_at, value_at}
 use Rattle.pd_kinds.specs.Layout.{Layout, Tree, tree, leaf_entries, node_entries_of, graph_of}
-use Rattle.pd_kinds.specs.Graph.{Graph, block_at, pair, block_of, role_of, edges_of, next as next_of, own_keys, is_inner_pair}
 use Rattle.pd_kinds.specs.Lawful.{IsLawful}
-use Rattle.pd_kinds.specs.Order.{children, gathered, keys_below}
 use Rattle.pd_kinds.specs.Trees.{entries_below, keys_of}
 use Rattle.pd_kinds.proofs.FieldLemmas.{le-lt}
-use Rattle.pd_laws.proofs.AllLemmas.{all_flat_map, all_map}
-use Rattle.pd_laws.proofs.SoundLemmas.{none_broken}
+use Rattle.pd_kinds.proofs.ListLemmas.{all_flat_map, all_map}
+use Rattle.pd_kinds.proofs.SoundLemmas.{none_broken}
 use Rattle.pd_laid.specs.FoundRoots.{is_sound_pair, is_sound_tree}
 use Rattle.pd_graph.specs.Format.{IsSound}
 use Rattle.pd_settle.proofs.ChainLemmas.{is_among, all_among}
-use Rattle.pd_settle.proofs.ReachLemmas.{child_of, role_of_child}
+use Rattle.pd_settle.proofs.NodeLemmas.{child_of, role_of_child}
 use Rattle.pd_settle.proofs.EntryLemmas.{gathered_map, leaf_keys}
-use Rattle.pd_tree.specs.Sound.{IsCleanPair}
-use Rattle.pd_tree.specs.TreeRoles.{IsTreeRole, IsTreeTo}
-use Rattle.pd_tree.proofs.TableLemmas.{tree_at, leaf_edges_at}
+use Rattle.pd_tree.specs.Search.{IsCleanPair, IsTreeRole, IsTreeTo}
+use Rattle.pd_tree.proofs.TreeLemmas.{tree_at, leaf_edges_at}
 use Rattle.pd_scan.proofs.SoundLemmas.{IsInside, AreSound, next_inside, small_inside, sound_after, sound_here, sound_from_tree, sound_named, inside_at}
 
 module _ (graph : Graph) (image : List (List ℕ)) (lawful : IsLawful graph) (role : ℕ) where

@@ -1,21 +1,21 @@
 -- What is measured of trees that fit each other.
-use Rattle.std.proofs.Common.{◌≡◌, ℕ, ◌<◌, max, true, false, nat_eq, nat_lt, List, Option, Some, None, sym, ◌∙◌, ap, ap₂, subst, arith}
+use Rattle.std.proofs.Common.{◌≡◌, ℕ, ◌<◌, max, true, false, nat_eq, nat_lt, List, Option, Some, None, sym, ◌∙◌, ap, ap₂, subst, arith, min, length, refl}
 use Rattle.std.proofs.lemmas.Bool.{and_from, and_parts, both_ways, eq-eqb, false_from_ne_true, lt-ltb, ltb-true}
 use Rattle.pd_kinds.specs.Graph.{Graph}
+use Rattle.pd_kinds.specs.declared.limits.TheConstants.{MAX_META_BLOCKS}
+use Rattle.pd_kinds.specs.Layout.{graph_of}
+use Rattle.pd_kinds.specs.ThinFormat.{thin_layout}
+use Rattle.pd_laid.specs.FoundRoots.{FoundRoots, IsFound, are_fitting, is_better, is_sound_tree, lost_graph, roots_at}
 use Rattle.pd_graph.specs.declared.notes.Notes.{Notes}
 use Rattle.pd_graph.specs.Notes.{note_in, size_of}
-use Rattle.pd_laid.specs.FoundRoots.{FoundRoots, IsFound, are_fitting, is_better, is_sound_tree, lost_graph, roots_at}
-use Rattle.pd_measures.specs.declared.measured.Measured.{Measured}
+use Rattle.pd_measures.specs.declared.measures.Measured.{Measured}
 use Rattle.pd_measures.specs.Counts.{DeviceCount, counts_of_details, counts_of_top, details_time, details_transaction, times_of_top, top_time, total_of}
-use Rattle.pd_measures.specs.Gauge.{list_measure}
-use Rattle.pd_measures.specs.Measured.{capped, capped_sum}
-use Rattle.pd_measures.specs.Measures.{measure_at}
+use Rattle.pd_measures.specs.Measured.{list_measure, capped, capped_sum, measure_at}
 use Rattle.pd_measures.proofs.SoundLemmas.{root_inside}
 use Rattle.pd_scan.specs.declared.trees.LostTrees.{LostTrees}
-use Rattle.pd_scan.specs.Lost.{AreRoots}
+use Rattle.pd_scan.specs.Lost.{AreRoots, IsPool, HavePlaces}
 use Rattle.pd_scan.specs.Pairs.{AreTreesOf, IsBestOf, may_fit, pair_of_trees}
-use Rattle.pd_scan.specs.Partners.{has_sum, is_partner, sum_of, time_at}
-use Rattle.pd_scan.specs.Tops.{is_noted_good}
+use Rattle.pd_scan.specs.Partners.{has_sum, is_partner, sum_of, time_at, is_noted_good}
 
 pub fitting_parts : (graph : Graph) (image : List (List ℕ)) (top details : ℕ) → are_fitting graph image top details ≡ true
     → (is_sound_tree graph image 2 top ≡ true) × (is_sound_tree graph image 4 details ≡ true)
@@ -153,3 +153,39 @@ module _ (image : List (List ℕ)) (data_blocks : ℕ) (trees : LostTrees) (are 
               let number = are.number in
               subst (λ (r : FoundRoots). is_better r found ≡ false) (sym (roots top details e)) (best.none_better top details (omega arith) e);
         }
+
+-- The format of a pool whose roots are looked for.
+
+pub nr_of : (graph : Graph) (nr data_blocks : ℕ) → graph ≡ graph_of 11 nr data_blocks (thin_layout nr data_blocks) → graph.nr ≡ nr
+unfolding graph_of
+nr_of graph nr data_blocks e = ap (λ (g : Graph). g.nr) e
+
+its_pool : (nr data_blocks : ℕ) → IsPool 11 (graph_of 11 nr data_blocks (thin_layout nr data_blocks))
+unfolding graph_of
+its_pool nr data_blocks = record { roles_number = refl; format = refl }
+
+pub pool_of : (graph : Graph) (nr data_blocks : ℕ) → graph ≡ graph_of 11 nr data_blocks (thin_layout nr data_blocks) → IsPool 11 graph
+pool_of graph nr data_blocks e = subst (IsPool 11) (sym e) (its_pool nr data_blocks)
+
+-- it is that of the image, where there are as many blocks as the image has, and no more than there can be
+pub lost_is : (image : List (List ℕ)) (nr data_blocks : ℕ) (graph : Graph) → graph ≡ graph_of 11 nr data_blocks (thin_layout nr data_blocks)
+    → nr ≡ min (length image) MAX_META_BLOCKS → graph ≡ lost_graph image data_blocks
+unfolding lost_graph
+lost_is image nr data_blocks graph e number = e ∙ ap (λ (n : ℕ). graph_of 11 n data_blocks (thin_layout n data_blocks)) number
+
+-- of no blocks no two trees fit
+pub none_found : (image : List (List ℕ)) (data_blocks : ℕ) → min (length image) MAX_META_BLOCKS ≡ 0 → IsFound (lost_graph image data_blocks) image None
+unfolding lost_graph graph_of
+none_found image data_blocks none = λ top details.
+    let graph = lost_graph image data_blocks in
+    false_from_ne_true (are_fitting graph image top details)
+    (λ e. let small = root_inside graph image 2 top (fitting_parts graph image top details e).0 in absurd (omega arith))
+
+-- the trees have as many places as the first of them
+pub places_by : (nr : ℕ) (trees : LostTrees) → HavePlaces nr trees → HavePlaces (size_of trees.tops) trees
+places_by nr trees places = subst (λ (n : ℕ). HavePlaces n trees) (sym places.tops) places
+
+-- there are no blocks where the image has none
+pub no_blocks : (image : List (List ℕ)) (data_blocks : ℕ) → min (length image) MAX_META_BLOCKS ≡ 0 → (lost_graph image data_blocks).nr ≡ 0
+unfolding lost_graph graph_of
+no_blocks image data_blocks none = none

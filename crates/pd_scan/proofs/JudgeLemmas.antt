@@ -2,18 +2,17 @@
 use Rattle.std.proofs.Common.{◌≡◌, ◌↔◌, inl, inr, ℕ, ◌+◌, ◌<◌, ◌≤◌, Bool, true, false, ◌&&◌, ◌||◌, not, nat_eq, nat_lt, get_or, set, List, [], ◌∷◌, length, Option, Some, IsTrue, refl, sym, ◌∙◌, ap, arith, eq-eqb, get_or-set_same, get_or-set_other}
 use Rattle.std.specs.List.{list_any, slice_get}
 use Rattle.std.specs.Option.{unwrap_or}
-use Rattle.std.proofs.Math.Bool.{or-false}
-use Rattle.std.proofs.lemmas.Bool.{cases_Bool, cases_eq, cases_lt, ne_eqb, lt-ltb, le-ltb, ltb-true, ltb-false, not-true, and_parts, both_ways}
+use Rattle.std.proofs.Math.Bool.{or-false, and-true}
+use Rattle.std.proofs.lemmas.Bool.{cases_Bool, cases_eq, cases_lt, ne_eqb, lt-ltb, le-ltb, ltb-true, ltb-false, not-true, and_parts, both_ways, and_right}
 use Rattle.std.proofs.lemmas.Nat.Bits.{bit_at-zero}
 use Rattle.pd_kinds.specs.declared.rule.Rule.{Rule}
-use Rattle.pd_kinds.specs.declared.rule.Rule.TheVariants as r
 use Rattle.pd_kinds.specs.Rule.{all_rules}
-use Rattle.pd_kinds.specs.Edge.{is_outside}
-use Rattle.pd_kinds.specs.Graph.{Graph, block_at}
-use Rattle.pd_laws.proofs.SoundLemmas.{some_broken, none_broken}
-use Rattle.pd_graph.specs.Roles.{has_bit}
+use Rattle.pd_kinds.specs.Graph.{is_outside, Graph, block_at}
+use Rattle.pd_kinds.proofs.SoundLemmas.{some_broken, none_broken}
+use Rattle.pd_kinds.specs.declared.rule.Rule.TheVariants as r
+use Rattle.pd_graph.specs.Marks.{has_bit}
 use Rattle.pd_settle.specs.Settled.{is_fit}
-use Rattle.pd_scan.specs.Fit.{is_unbroken, is_between, ShareChecksum, AreJudged}
+use Rattle.pd_scan.specs.Lost.{is_unbroken, is_between, ShareChecksum, AreJudged}
 use Rattle.pd_scan.proofs.SoundLemmas.{inside_by}
 
 none_pass : (bad : Rule → Bool) (rules : List Rule) → ((rule : Rule) → bad rule ≡ false) → list_any bad rules ≡ false
@@ -131,3 +130,29 @@ judged_more graph image first end b value block fit low small place found before
 pub judged_all : (graph : Graph) (image : List (List ℕ)) (first end below : ℕ) (fit : List ℕ) → graph.nr ≤ below → AreJudgedBelow graph image first end below fit
     → AreJudged graph image first end fit
 judged_all graph image first end below fit past judged = record { fits = λ role b within small. judged.fits role b within (omega arith) }
+
+-- What is taken out of the table of fit blocks.
+
+-- nothing is asked of a block that is another, or that is kept
+kept_by : (x same keeps : Bool) → (same ≡ true → (x && keeps) ≡ x) → x ≡ (x && (not same || keeps))
+kept_by x true keeps e = sym (e refl)
+kept_by x false keeps e = sym (and-true x)
+
+and_true_by : (x keeps : Bool) → keeps ≡ true → (x && keeps) ≡ x
+and_true_by x keeps e = ap (λ (k : Bool). x && k) e ∙ and-true x
+
+pub all_kept : (x same keeps : Bool) → keeps ≡ true → x ≡ (x && (not same || keeps))
+all_kept x same keeps e = kept_by x same keeps (λ here. and_true_by x keeps e)
+
+pub taken_out : (fit : List ℕ) (b role c : ℕ) (keeps : Bool) → b < length fit → keeps ≡ false → is_fit (set fit b 0) role c ≡ (is_fit fit role c && (not (nat_eq c b) || keeps))
+taken_out fit b role c keeps small gone = elim (cases_eq c b) [
+  | inl same ↦
+      ap (λ (d : ℕ). has_bit (get_or (set fit b 0) d 0) role) same
+      ∙ (ap (λ (n : ℕ). has_bit n role) (get_or-set_same fit b 0 0 small)
+      ∙ (ap (λ (n : ℕ). nat_eq n 1) (bit_at-zero role)
+      ∙ sym (ap (λ (x : Bool). is_fit fit role c && (not x || keeps)) (eq-eqb c b same)
+      ∙ (ap (λ (x : Bool). is_fit fit role c && x) gone ∙ and_right (is_fit fit role c) false refl))))
+  | inr ne ↦
+      ap (λ (n : ℕ). has_bit n role) (get_or-set_other fit b c 0 0 ne)
+      ∙ sym (ap (λ (x : Bool). is_fit fit role c && (not x || keeps)) (ne_eqb c b ne) ∙ and-true (is_fit fit role c))
+]

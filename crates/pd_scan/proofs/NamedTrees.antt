@@ -3,22 +3,21 @@ use Rattle.std.proofs.Common.{◌≡◌, ◌⊎◌, inl, inr, ℕ, zero, suc, �
 use Rattle.std.specs.List.{AllByRecursion, list_any}
 use Rattle.std.proofs.lemmas.Bool.{and_parts, both_ways, cases_Bool, not-true}
 use Rattle.pd_kinds.specs.declared.rule.Rule.{Rule}
-use Rattle.pd_kinds.specs.Edge.{Edge}
-use Rattle.pd_kinds.specs.Graph.{Graph, block_at, pair, block_of, role_of, edges_of, is_inner_pair, is_reached, next, own_keys}
+use Rattle.pd_kinds.specs.Graph.{Edge, Graph, block_at, pair, block_of, role_of, edges_of, is_inner_pair, is_reached, next, own_keys, children, has_chain, is_deep, is_in_range}
 use Rattle.pd_kinds.specs.Lawful.{IsLawful, IsWithin}
 use Rattle.pd_kinds.specs.Layout.{Layout, copy, graph_of, is_bad}
-use Rattle.pd_kinds.specs.Order.{children, has_chain, is_deep, is_in_range}
 use Rattle.pd_kinds.specs.Paths.{IsOnPathFrom, start, edge}
 use Rattle.pd_kinds.specs.Rule.{all_rules}
 use Rattle.pd_kinds.specs.Stages.{IsReached}
 use Rattle.pd_kinds.specs.Trees.{entries_below}
-use Rattle.pd_laws.specs.InOrder.{AreInOrder}
-use Rattle.pd_laws.proofs.AllLemmas.{all_from, all_from_two, all_mapped}
-use Rattle.pd_laws.proofs.PathLemmas.{path_from_reached, reached_from_path}
-use Rattle.pd_laws.proofs.SoundLemmas.{none_broken}
+use Rattle.pd_kinds.proofs.KindsListLemmas.{holds_among}
+use Rattle.pd_kinds.specs.InOrder.{AreInOrder}
+use Rattle.pd_kinds.proofs.ListLemmas.{all_from, all_from_two, all_mapped}
+use Rattle.pd_kinds.proofs.PathLemmas.{path_from_reached, reached_from_path}
+use Rattle.pd_kinds.proofs.SoundLemmas.{none_broken}
 use Rattle.pd_laid.specs.FoundRoots.{is_sound_pair}
 use Rattle.pd_laid.proofs.NodeFacts.{among_mapped, block_pair, role_pair}
-use Rattle.pd_scan.proofs.SameBelow.{among, chain_same, entries_same, range_same}
+use Rattle.pd_scan.proofs.SameBelow.{chain_same, entries_same, range_same}
 use Rattle.pd_scan.proofs.SoundLemmas.{IsInside, AreSound, next_inside, small_inside, sound_after, sound_here}
 
 -- a table of layouts, but that block 0 names these blocks and breaks no rule
@@ -110,8 +109,8 @@ module _ (roles nr data_blocks : ℕ) (layout : ℕ → Layout) (image : List (L
     on_path p start = inl refl
     on_path p (edge q p' small path leads) = elim (on_path q path) [
       | inl first ↦
-          inr (among IsPart (map (λ (e : Edge). pair e.block e.role) roots) p parts (rw (first, first_next) at leads))
-      | inr part ↦ inr (among IsPart (next graph image q) p (each q part) (rw (next_same q part) at leads))
+          inr (holds_among IsPart (map (λ (e : Edge). pair e.block e.role) roots) p parts (rw (first, first_next) at leads))
+      | inr part ↦ inr (holds_among IsPart (next graph image q) p (each q part) (rw (next_same q part) at leads))
     ]
 
     met : (b role : ℕ) → IsReached named image b role → (pair b role ≡ 0) ⊎ IsPart (pair b role)

@@ -10,23 +10,22 @@ use Rattle.std.specs.Vec.{vec_items}
 use Rattle.std.proofs.lemmas.Bool.{cases_Bool, cases_eq, and_from, and_parts, both_ways, eqb-true, eq-eqb, ne_eqb, false_from_ne_true}
 use Rattle.std.proofs.lemmas.Option.{none-some}
 use Rattle.pd_kinds.specs.Graph.{Graph}
+use Rattle.pd_laid.specs.FoundRoots.{FoundRoots, are_fitting, is_better, is_sound_tree, lost_graph}
 use Rattle.pd_graph.specs.declared.notes.Notes.{Notes}
 use Rattle.pd_graph.specs.Notes.{size_of}
-use Rattle.pd_laid.specs.FoundRoots.{FoundRoots, are_fitting, is_better, is_sound_tree, lost_graph}
-use Rattle.pd_measures.specs.declared.measured.Measured.{Measured}
+use Rattle.pd_measures.specs.declared.measures.Measured.{Measured}
 use Rattle.pd_measures.specs.declared.measures.Measures.{Measures}
 use Rattle.pd_measures.specs.Counts.{DeviceCount, counts_of_details, counts_of_top, pairs_of}
-use Rattle.pd_measures.specs.Measures.{measure_at}
+use Rattle.pd_measures.specs.Measured.{measure_at}
 use Rattle.pd_measures.proofs.SoundLemmas.{root_inside}
+use Rattle.pd_measures.proofs.ListLemmas.{the_count}
 use Rattle.pd_scan.specs.declared.trees.LostTrees.{LostTrees}
 use Rattle.pd_scan.specs.Numbers.{AreDetailsNumbered, AreNumbered, AreTold, AreTopsChanged, AreTopsNumbered, DeviceCounts, HaveNumbers, IsNumber, IsTopNumber, Numbers, details_list, list_cmp, top_list, with_number}
-use Rattle.pd_scan.specs.Pairs.{AreTreesOf, IsBestOf, may_fit, pair_of_trees}
-use Rattle.pd_scan.specs.Partners.{has_sum, is_partner, sum_cmp, sum_of, time_of}
+use Rattle.pd_scan.specs.Pairs.{AreTreesOf, IsBestOf, may_fit, pair_of_trees, AreInside, found_of}
+use Rattle.pd_scan.specs.Partners.{has_sum, is_partner, sum_cmp, sum_of, time_of, is_noted_good}
 use Rattle.pd_scan.specs.Lost.{AreRoots}
-use Rattle.pd_scan.specs.Tops.{is_noted_good}
 use Rattle.pd_scan.proofs.FitLemmas.{fitting_parts, good_root, may_fit_by, root_good}
 use Rattle.pd_scan.specs.declared.roots.Roots.{Roots}
-use Rattle.pd_scan.specs.Roots.{AreInside, found_of}
 use Rattle.pd_scan.proofs.PairLemmas.{fitting_inside}
 use Rattle.pd_scan.proofs.PartnerLemmas.{equal_last}
 
@@ -65,9 +64,6 @@ own_list (x ∷ xs) =
 -- what a table has at a list
 same_key : (numbers : Numbers) (a b : DeviceCounts) → vec_items a ≡ vec_items b → get list_cmp numbers a ≡ get list_cmp numbers b
 same_key numbers a b same = ap (λ (items : List (ℕ × ℕ)). get_by (λ (key : DeviceCounts). slice_cmp sum_cmp items (vec_items key)) numbers) same
-
-abbrev the_count : ℕ → ℕ → DeviceCount
-the_count id mapped = record { id = id; mapped = mapped }
 
 pairs_one : (xs ys : List DeviceCount) → pairs_of xs ≡ pairs_of ys → xs ≡ ys
 pairs_one [] [] same = refl

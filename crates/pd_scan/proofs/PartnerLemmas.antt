@@ -4,16 +4,15 @@ use Rattle.std.specs.BTreeMap.{BTreeMap, get}
 use Rattle.std.specs.Ordering.{is_eq, nat_cmp, ordering_then}
 use Rattle.std.specs.declared.cmp.Ordering.{Ordering}
 use Rattle.std.proofs.lemmas.Bool.{cases_eq, cases_order, and_parts, both_ways, eqb-true, eq-eqb, ne_eqb, lt-ltb, le-ltb}
-use Rattle.pd_graph.specs.declared.notes.Notes.{Notes}
 use Rattle.pd_laid.specs.FoundRoots.{is_greater}
-use Rattle.pd_measures.specs.declared.measured.Measured.{Measured}
+use Rattle.pd_graph.specs.declared.notes.Notes.{Notes}
+use Rattle.pd_measures.specs.declared.measures.Measured.{Measured}
 use Rattle.pd_measures.specs.declared.measures.Measures.{Measures}
-use Rattle.pd_measures.specs.Measures.{measure_at}
+use Rattle.pd_measures.specs.Measured.{measure_at}
 use Rattle.pd_scan.specs.declared.partners.Partner.{Partner}
 use Rattle.pd_scan.specs.declared.partners.Partners.{Partners}
-use Rattle.pd_scan.specs.Tops.{is_noted_good}
-use Rattle.pd_scan.specs.Partners.{ArePartners, ArePartnersBefore, AreBySum, IsGreatest, by_time, by_transaction, greater_of, has_sum, is_partner, partner_at, sum_cmp, sum_of, with_one}
-use Rattle.pd_scan.proofs.OrderLemmas.{not_greater_back, not_greater_over, not_greater_self}
+use Rattle.pd_scan.specs.Partners.{is_noted_good, ArePartners, ArePartnersBefore, AreBySum, IsGreatest, by_time, by_transaction, greater_of, has_sum, is_partner, partner_at, sum_cmp, sum_of, with_one}
+use Rattle.pd_scan.proofs.PairLemmas.{not_greater_back, not_greater_over, not_greater_self}
 
 -- numbers are equal in their order exactly where they are one
 equal_first : (x y : ℕ) (later : Ordering) → is_eq (ordering_then (nat_cmp x y) later) ≡ (nat_eq x y && is_eq later)

@@ -1,39 +1,27 @@
 -- Two formats over two images that see the same in each pair of a set which no edge leads out of: they have the same trees there.
-use Rattle.std.proofs.Common.{◌≡◌, inl, inr, ℕ, zero, suc, ◌*◌, Bool, true, false, not, ◌||◌, nat_eq, List, [], ◌∷◌, map, refl, ap, ap₂, subst, ◌∙◌}
+use Rattle.std.proofs.Common.{◌≡◌, inl, inr, ℕ, zero, suc, ◌*◌, Bool, true, false, not, ◌||◌, List, [], ◌∷◌, map, refl, ap, ap₂, ◌∙◌}
 use Rattle.std.specs.List.{AllByRecursion, flat_map, list_any, list_all, range_with_len}
-use Rattle.std.proofs.lemmas.Bool.{and_from, both_ways, cases_Bool, cond_both, eqb-true, not_from_false, or_cases}
-use Rattle.pd_kinds.specs.Edge.{is_outside}
-use Rattle.pd_kinds.specs.Graph.{Graph, block_at, pair, block_of, role_of, is_inner_pair, is_reached_from, next, nodes_from, own_keys}
+use Rattle.std.proofs.lemmas.Bool.{and_from, cases_Bool, cond_both, not_from_false}
+use Rattle.pd_kinds.specs.Graph.{is_outside, Graph, block_at, pair, block_of, role_of, is_inner_pair, is_reached_from, next, nodes_from, own_keys, are_children_in_range, children, gathered, has_chain, is_deep, is_in_range, keys_below}
 use Rattle.pd_kinds.specs.Layout.{leaf_entries}
-use Rattle.pd_kinds.specs.Order.{are_children_in_range, children, gathered, has_chain, is_deep, is_in_range, keys_below}
 use Rattle.pd_kinds.specs.Paths.{IsOnPathFrom, start, edge}
 use Rattle.pd_kinds.specs.Rule.{all_rules}
 use Rattle.pd_kinds.specs.Trees.{entries_below}
-use Rattle.pd_laws.proofs.AllLemmas.{all_from}
-use Rattle.pd_laws.proofs.PathLemmas.{path_from_reached}
+use Rattle.pd_kinds.proofs.KindsListLemmas.{holds_among}
+use Rattle.pd_kinds.proofs.ListLemmas.{all_from}
+use Rattle.pd_kinds.proofs.PathLemmas.{path_from_reached}
 use Rattle.pd_laid.specs.FoundRoots.{is_sound_pair, is_sound_tree}
-use Rattle.pd_scan.proofs.PathLemmas.{all_kept}
+use Rattle.pd_laid.proofs.GatherLemmas.{same_each}
+use Rattle.pd_scan.proofs.SoundLemmas.{all_kept}
 
 -- lists are made of others in two ways that are the same for each element
 pub map_same : {X Y : Type 0} → (f g : X → Y) (xs : List X) → AllByRecursion (λ x. f x ≡ g x) xs → map f xs ≡ map g xs
 map_same f g [] same = refl
 map_same f g (x ∷ xs) same = rw (same.0, map_same f g xs same.1) refl
 
-flat_map_same : {X Y : Type 0} → (f g : X → List Y) (xs : List X) → AllByRecursion (λ x. f x ≡ g x) xs → flat_map f xs ≡ flat_map g xs
-flat_map_same f g [] same = refl
-flat_map_same f g (x ∷ xs) same = rw (same.0, flat_map_same f g xs same.1) refl
-
 any_same : (f g : ℕ → Bool) (xs : List ℕ) → AllByRecursion (λ x. f x ≡ g x) xs → list_any f xs ≡ list_any g xs
 any_same f g [] same = refl
 any_same f g (x ∷ xs) same = rw (same.0, any_same f g xs same.1) refl
-
--- what holds of each holds of one of them
-pub among : (P : ℕ → Type 0) (xs : List ℕ) (q : ℕ) → AllByRecursion P xs → list_any (λ t. nat_eq t q) xs ≡ true → P q
-among P [] q all leads = absurd (both_ways false refl leads)
-among P (x ∷ xs) q all leads = elim (or_cases (nat_eq x q) _ leads) [
-  | inl same ↦ subst P (eqb-true x q same) all.0
-  | inr later ↦ among P xs q all.1 later
-]
 
 module _ (graph other : Graph) (image lost : List (List ℕ)) (P : ℕ → Type 0)
     (block_same : (p : ℕ) → P p → block_at lost (block_of p) ≡ block_at image (block_of p))
@@ -65,7 +53,7 @@ module _ (graph other : Graph) (image lost : List (List ℕ)) (P : ℕ → Type 
       let here = gathered (is_inner_pair graph image) (children graph image) own j in
       let other_way = gathered (is_inner_pair other lost) (children other lost) there j in
       let below = ap (flat_map other_way) (children_same p is)
-      ∙ flat_map_same other_way here (children graph image p)
+      ∙ same_each other_way here (children graph image p)
       (all_from P (λ q. other_way q ≡ here q) (gathered_same own there same j) (children graph image p) (child_each p is)) in
       rw (inner_same p is, same p is, below) refl
 
@@ -103,7 +91,7 @@ module _ (graph other : Graph) (image lost : List (List ℕ)) (P : ℕ → Type 
     on_path first q is start = is
     on_path first q is (edge t q' small path leads) =
         let met = on_path first t is path in
-        among P (next graph image t) q (each t met) (rw (next_same t met) at leads)
+        holds_among P (next graph image t) q (each t met) (rw (next_same t met) at leads)
 
     -- and a tree that the set has is sound
     pub tree_sound : (role root : ℕ) → is_outside other.nr root ≡ false → P (pair root role) → is_sound_tree other lost role root ≡ true

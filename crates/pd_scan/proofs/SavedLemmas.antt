@@ -1,40 +1,33 @@
 -- What a repair saves from roots that fit each other is what was found.
-use Rattle.std.proofs.Common.{◌≡◌, inl, inr, ℕ, ◌%◌, ◌^◌, ◌<◌, ◌≤◌, Bool, true, false, not, nat_eq, nat_lt, List, [], ◌∷◌, length, map, filter, Option, Some, refl, ap, subst, ◌∙◌, arith}
+use Rattle.std.proofs.Common.{◌≡◌, inl, inr, ℕ, ◌%◌, ◌^◌, ◌<◌, ◌≤◌, true, false, not, nat_eq, nat_lt, List, [], ◌∷◌, length, map, Option, Some, refl, ap, subst, ◌∙◌, arith}
 use Rattle.std.specs.List.{AllByRecursion, list_any, list_all}
 use Rattle.std.specs.Option.{option_map}
 use Rattle.std.specs.Prelude.{is_none}
 use Rattle.std.specs.Str.{bytes_eq}
 use Rattle.std.proofs.lemmas.Slice.Eq.{bytes_eq-Decides}
 use Rattle.std.proofs.lemmas.Bool.{cases_Bool, both_ways, and_parts, eqb-true, lt-ltb, ne_eqb, not-false, not_from_false, or_from}
-use Rattle.pd_kinds.specs.Edge.{Edge, is_outside}
-use Rattle.pd_kinds.specs.Graph.{Graph, block_at, pair}
+use Rattle.pd_kinds.specs.Graph.{Edge, is_outside, Graph, block_at, pair}
 use Rattle.pd_kinds.specs.Image.{HasBytes}
 use Rattle.pd_kinds.specs.Lawful.{IsLawful}
-use Rattle.pd_kinds.specs.Layout.{Layout, tree, graph_of, leaf_entries}
+use Rattle.pd_kinds.specs.Layout.{Layout, graph_of, leaf_entries}
 use Rattle.pd_kinds.specs.Meaning.{ThinDevice, ThinPool, thin_device}
 use Rattle.pd_kinds.specs.Node.{Entry}
 use Rattle.pd_kinds.specs.Stages.{IsReached}
-use Rattle.pd_kinds.specs.ThinFormat.{thin_layout, mapped_block, mapped_time}
-use Rattle.pd_kinds.specs.ThinSuper.{ThinFields}
+use Rattle.pd_kinds.specs.ThinFormat.{thin_layout, mapped_block, mapped_time, ThinFields}
 use Rattle.pd_kinds.specs.Trees.{entries_below, keys_of, value_of_key}
 use Rattle.pd_kinds.specs.Whole.{top_entries, mapping_entries, details_entries}
-use Rattle.pd_laws.specs.InOrder.{AreInOrder}
-use Rattle.pd_laws.proofs.AllLemmas.{all_from, all_from_two, none_passes}
+use Rattle.pd_kinds.specs.InOrder.{AreInOrder}
+use Rattle.pd_kinds.proofs.ListLemmas.{all_from, all_from_two, none_passes}
 use Rattle.pd_laid.specs.FoundRoots.{FoundRoots, are_fitting, devices_below, found_pool, is_sound_tree}
 use Rattle.pd_laid.specs.Salvage.{salvaged_entries, salvaged_mappings, salvaged_device, salvage_from}
 use Rattle.pd_laid.proofs.NodeFacts.{among_mapped, block_pair, given_root, leaf_named, under_all, within_at}
-use Rattle.pd_laid.proofs.SalvageLemmas.{top_tree, bottom_tree, details_tree}
+use Rattle.pd_laid.proofs.SalvageLemmas.{top_tree, bottom_tree, details_tree, bottom_is, details_is, filter_all, top_is}
 use Rattle.pd_answers.specs.KeptLines.{found_mapped}
-use Rattle.pd_answers.specs.NamedRoots.{lacks_details}
-use Rattle.pd_scan.specs.Roots.{lost_fields}
+use Rattle.pd_answers.specs.NamedRepairs.{lacks_details}
+use Rattle.pd_scan.specs.Pairs.{lost_fields}
 use Rattle.pd_scan.proofs.NamedTrees.{IsNamed, IsPart, entries_named, ordered, part_is, roots_reached, with_roots}
 use Rattle.pd_scan.proofs.SameBelow.{map_same}
 use Rattle.pd_scan.proofs.SoundLemmas.{inside_at as root_inside, sound_from_tree}
-
--- a filter that all pass keeps all
-filter_all : {X : Type 0} → (p : X → Bool) (xs : List X) → AllByRecursion (λ x. p x ≡ true) xs → filter p xs ≡ xs
-filter_all p [] all = refl
-filter_all p (x ∷ xs) all = rw (all.0, filter_all p xs all.1) refl
 
 -- the value of a key that there is
 record HasValue (entries : List Entry) (key : ℕ) : Type 0 where
@@ -61,18 +54,6 @@ all_counted make [] all = tt
 all_counted make (top ∷ tops) all =
     let parts = and_parts _ _ all in
     (eqb-true (make top).mapped (length (make top).mappings) parts.0, all_counted make tops parts.1)
-
-top_is : (nr data_blocks : ℕ) → thin_layout nr data_blocks 2 ≡ tree top_tree
-unfolding thin_layout
-top_is nr data_blocks = refl
-
-bottom_is : (nr data_blocks : ℕ) → thin_layout nr data_blocks 3 ≡ tree (bottom_tree data_blocks)
-unfolding thin_layout
-bottom_is nr data_blocks = refl
-
-details_is : (nr data_blocks : ℕ) → thin_layout nr data_blocks 4 ≡ tree details_tree
-unfolding thin_layout
-details_is nr data_blocks = refl
 
 -- of two trees that fit each other the first is sound
 pub top_is_sound : (graph : Graph) (image : List (List ℕ)) (top details : ℕ) → are_fitting graph image top details ≡ true → is_sound_tree graph image 2 top ≡ true

@@ -1,24 +1,39 @@
 -- Good nodes are the roots of sound trees.
-use Rattle.std.proofs.Common.{◌≡◌, ◌⊎◌, inl, inr, ℕ, zero, suc, ◌*◌, ◌<◌, ◌≤◌, Bool, true, false, ◌||◌, not, cond, nat_eq, nat_lt, List, [], ◌∷◌, map, refl, sym, ◌∙◌, ap, subst, arith, eq-eqb}
+use Rattle.std.proofs.Common.{◌≡◌, ℕ, ◌<◌, Bool, true, false, cond, List, [], ◌∷◌, filter, refl, arith, ◌⊎◌, inl, inr, zero, suc, ◌*◌, ◌≤◌, ◌||◌, not, nat_eq, nat_lt, map, sym, ◌∙◌, ap, subst, eq-eqb}
 use Rattle.std.specs.List.{list_all, range_with_len, AllByRecursion}
-use Rattle.std.proofs.lemmas.Bool.{cases_Bool, or_cases, or_left, or_right, and_parts, and_from, eqb-true, eqb-false, both_ways, ne_eqb, lt-ltb, ltb-true, not-true}
-use Rattle.pd_kinds.specs.Edge.{Edge, is_outside}
-use Rattle.pd_kinds.specs.Graph.{Graph, block_at, pair, block_of, role_of, edges_of, next, is_inner_pair, is_reached_from, nodes_from}
-use Rattle.pd_kinds.specs.Lawful.{IsLawful, IsWithin}
-use Rattle.pd_kinds.specs.Order.{children, has_chain, is_deep, is_in_range}
+use Rattle.std.proofs.lemmas.Bool.{and_from, cases_Bool, or_cases, or_left, or_right, and_parts, eqb-true, eqb-false, both_ways, ne_eqb, lt-ltb, ltb-true, not-true}
 use Rattle.pd_kinds.specs.Paths.{IsOnPathFrom, start, edge}
-use Rattle.pd_laws.proofs.PathLemmas.{path_from_reached, reached_from_path}
+use Rattle.pd_kinds.specs.Graph.{Edge, is_outside, Graph, block_at, pair, block_of, role_of, edges_of, next, is_inner_pair, is_reached_from, nodes_from, children, has_chain, is_deep, is_in_range}
+use Rattle.pd_kinds.specs.Lawful.{IsLawful, IsWithin}
+use Rattle.pd_kinds.proofs.NumberLemmas.{same_test}
+use Rattle.pd_kinds.proofs.PathLemmas.{path_from_reached, reached_from_path}
 use Rattle.pd_laid.specs.FoundRoots.{is_sound_pair, is_sound_tree}
-use Rattle.pd_graph.proofs.AnyLemmas.{same_test}
 use Rattle.pd_graph.proofs.BitLemmas.{pair_block, pair_role}
-use Rattle.pd_settle.specs.Good.{is_good, is_well, is_good_node}
+use Rattle.pd_settle.specs.Settled.{is_good, is_well, is_good_node}
 use Rattle.pd_settle.proofs.ChainLemmas.{is_among, ends_below}
-use Rattle.pd_settle.proofs.GoodLemmas.{good_well, good_child, good_ends, good_from}
-use Rattle.pd_settle.proofs.NotedLemmas.{chain_none}
-use Rattle.pd_settle.proofs.ReachLemmas.{child_of, role_of_child}
-use Rattle.pd_scan.specs.Fit.{is_unbroken, is_fit_root}
-use Rattle.pd_scan.proofs.PathLemmas.{path_after, all_kept, kept_passes}
-use Rattle.pd_measures.proofs.SoundLemmas.{less_of}
+use Rattle.pd_settle.proofs.GoodLemmas.{good_well, good_child, good_ends, good_from, chain_none}
+use Rattle.pd_settle.proofs.NodeLemmas.{child_of, role_of_child}
+use Rattle.pd_measures.proofs.SoundLemmas.{kept_from, less_of}
+use Rattle.pd_scan.specs.Lost.{is_unbroken, is_fit_root}
+
+-- Paths that go on, and what is reached by them.
+
+-- a path after a path
+pub path_after : (n : ℕ) (step : ℕ → List ℕ) (a b c : ℕ) → IsOnPathFrom n step a b → IsOnPathFrom n step b c → IsOnPathFrom n step a c
+path_after n step a b c first start = first
+path_after n step a b c first (edge q c' small path leads) = edge q c' small (path_after n step a b q first path) leads
+
+-- what is kept of a range passes
+kept_first : (f : ℕ → Bool) (b : Bool) (x : ℕ) (kept : List ℕ) → (b ≡ true → f x ≡ true) → list_all f kept ≡ true → list_all f (cond b (x ∷ kept) kept) ≡ true
+kept_first f true x kept one all = and_from (f x) (list_all f kept) (one refl) all
+kept_first f false x kept one all = all
+
+pub all_kept : (f g : ℕ → Bool) (xs : List ℕ) → ((x : ℕ) → g x ≡ true → f x ≡ true) → list_all f (filter g xs) ≡ true
+all_kept f g [] each = refl
+all_kept f g (x ∷ xs) each = kept_first f (g x) x (filter g xs) (each x) (all_kept f g xs each)
+
+pub kept_passes : (f g : ℕ → Bool) (n q : ℕ) → q < n → g q ≡ true → list_all f (filter g (range_with_len 0 n)) ≡ true → f q ≡ true
+kept_passes f g n q small passes all = kept_from f g 0 n q (omega arith) (omega arith) passes all
 
 pub inside_by : (nr b : ℕ) → 1 ≤ b → b < nr → not (is_outside nr b) ≡ true
 inside_by nr b low small = rw (ne_eqb b 0 (λ e. absurd (omega arith)), lt-ltb b nr small) refl

@@ -7,16 +7,15 @@ use Rattle.pd_kinds.specs.Node.{Entry}
 use Rattle.pd_kinds.specs.Graph.{Graph}
 use Rattle.pd_kinds.specs.Meaning.{ThinDevice, thin_device}
 use Rattle.pd_kinds.specs.Whole.{details_entries, top_entries}
-use Rattle.pd_laws.proofs.AllLemmas.{all_append, all_from}
-use Rattle.pd_graph.specs.Notes.{note_in, size_of}
+use Rattle.pd_kinds.proofs.KindsListLemmas.{all_front, all_rest}
+use Rattle.pd_kinds.proofs.ListLemmas.{all_append, all_from}
 use Rattle.pd_laid.specs.FoundRoots.{FoundRoots, IsFound, are_fitting, devices_below, is_better, lost_graph, roots_at}
+use Rattle.pd_answers.specs.NamedRepairs.{best_for, best_of, in_order, placed, states}
+use Rattle.pd_graph.specs.Notes.{note_in, size_of}
 use Rattle.pd_measures.proofs.SoundLemmas.{root_inside}
-use Rattle.pd_answers.specs.States.{best_for, best_of, in_order, placed, states}
 use Rattle.pd_scan.specs.declared.states.State.{State}
 use Rattle.pd_scan.specs.declared.trees.LostTrees.{LostTrees}
-use Rattle.pd_scan.specs.Pairs.{AreTreesOf, IsBestOf, may_fit, pair_of_trees}
-use Rattle.pd_scan.specs.Roots.{AreInside}
-use Rattle.pd_scan.specs.States.{AreFoundStates, AreStatesOf, HasDevices, IsFitting, IsStateOf, best_among, best_states, first_of, place_among, state_roots}
+use Rattle.pd_scan.specs.Pairs.{AreTreesOf, IsBestOf, may_fit, pair_of_trees, AreInside, AreFoundStates, AreStatesOf, HasDevices, IsFitting, IsStateOf, best_among, best_states, first_of, place_among, state_roots}
 use Rattle.pd_scan.proofs.BestLemmas.{best_has, best_is, first_is_best, first_taken, ordered_have, pairs_have}
 use Rattle.pd_scan.proofs.FitLemmas.{fitting_parts}
 use Rattle.pd_scan.proofs.PairLemmas.{fitting_inside, pair_details, pair_top}
@@ -50,19 +49,8 @@ placed_first (suc n) roots (x ∷ xs) = chosen (is_better roots x) (placed_first
     chosen true rest = ap (λ (rs : List FoundRoots). roots ∷ rs) (first_again n x xs)
     chosen false rest = ap (λ (rs : List FoundRoots). x ∷ rs) rest
 
--- what holds of each holds of the first ones, and of the others
-all_first : {X : Type 0} → (P : X → Type 0) (n : ℕ) (xs : List X) → AllByRecursion P xs → AllByRecursion P (take n xs)
-all_first P zero xs all = tt
-all_first P (suc n) [] all = tt
-all_first P (suc n) (x ∷ xs) all = (all.0, all_first P n xs all.1)
-
-all_rest : {X : Type 0} → (P : X → Type 0) (n : ℕ) (xs : List X) → AllByRecursion P xs → AllByRecursion P (drop n xs)
-all_rest P zero xs all = all
-all_rest P (suc n) [] all = tt
-all_rest P (suc n) (x ∷ xs) all = all_rest P n xs all.1
-
 all_inserted : (P : State → Type 0) (xs : List State) (i : ℕ) (s : State) → P s → AllByRecursion P xs → AllByRecursion P (insert xs i s)
-all_inserted P xs i s own all = all_append P (take i xs) (s ∷ drop i xs) (all_first P i xs all) (own, all_rest P i xs all)
+all_inserted P xs i s own all = all_append P (take i xs) (s ∷ drop i xs) (all_front P i xs all) (own, all_rest P i xs all)
 
 module _ (trees : LostTrees) (top : ℕ) where
   abbrev best : ℕ → Option FoundRoots
@@ -92,7 +80,7 @@ module _ (trees : LostTrees) (top : ℕ) where
         ∙ (ap (take 100) (placed_is s found ∙ ap (placed (state_roots s)) are.best)
         ∙ (placed_first 100 (state_roots s) (in_order (filter_map best tops))
         ∙ ap (λ (o : Option FoundRoots). take 100 (in_order (cons_option o (filter_map best tops)))) (its_best (Some (state_roots s)) is own)));
-    each = all_first (IsStateOf trees) 100 (insert found (place_among s found) s)
+    each = all_front (IsStateOf trees) 100 (insert found (place_among s found) s)
         (all_inserted (IsStateOf trees) found (place_among s found) s
         (record { fitting = is.fitting; devices = devices ∙ ap (λ (t : ℕ). (note_in trees.tops t).below) (sym own) }) are.each);
   }
@@ -187,7 +175,7 @@ module _ (image : List (List ℕ)) (data_blocks : ℕ) where
   unfolding states best_for
   all_fit =
       let best = best_among (are_fitting lost image) (roots_at lost image) lost.nr in
-      all_first (IsFitting lost image) 100 (in_order (filter_map best (range_with_len 0 lost.nr)))
+      all_front (IsFitting lost image) 100 (in_order (filter_map best (range_with_len 0 lost.nr)))
       (ordered_have (IsFitting lost image) best (λ t.
       best_has (IsFitting lost image) (map (roots_at lost image t) (filter (are_fitting lost image t) (range_with_len 0 lost.nr)))
       (pairs_have (IsFitting lost image) (are_fitting lost image t) (roots_at lost image t) (is_fitting t) (range_with_len 0 lost.nr))) (range_with_len 0 lost.nr))

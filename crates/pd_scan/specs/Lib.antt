@@ -1,10 +1,4 @@
-pub mod Fit
-pub mod Tops
 pub mod Lost
-pub mod Tables
-pub mod Trees
-pub mod Roots
 pub mod Partners
 pub mod Pairs
 pub mod Numbers
-pub mod States

@@ -11,13 +11,12 @@ use Rattle.std.specs.Vec.{vec_items}
 use Rattle.pd_kinds.specs.Graph.{Graph}
 use Rattle.pd_kinds.specs.Node.{Entry}
 use Rattle.pd_kinds.specs.Whole.{top_entries}
-use Rattle.pd_graph.specs.Notes.{size_of}
 use Rattle.pd_laid.specs.FoundRoots.{is_sound_tree}
-use Rattle.pd_measures.specs.declared.measured.Measured.{Measured}
+use Rattle.pd_graph.specs.Notes.{size_of}
+use Rattle.pd_measures.specs.declared.measures.Measured.{Measured}
 use Rattle.pd_measures.specs.Counts.{counts_of_details, counts_of_top, mappings_below, pairs_of}
-use Rattle.pd_measures.specs.Gauge.{below_root}
+use Rattle.pd_measures.specs.Measured.{below_root, measure_at, places_of}
 use Rattle.pd_measures.specs.declared.measures.Measures.{Measures}
-use Rattle.pd_measures.specs.Measures.{measure_at, places_of}
 use Rattle.pd_scan.specs.declared.trees.LostTrees.{LostTrees}
 use Rattle.pd_scan.specs.Lost.{AreRoots}
 use Rattle.pd_scan.specs.Partners.{sum_cmp}

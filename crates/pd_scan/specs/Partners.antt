@@ -1,16 +1,29 @@
 -- Details trees by what is measured of them, and which of those with one sum are the best for a mapping tree.
-use Rattle.std.specs.Prelude.{◌≡◌, ℕ, ◌-◌, ◌^◌, ◌<◌, min, Bool, true, false, ◌==◌, ◌&&◌, nat_lt, if◌then◌else◌, List, [], ◌∷◌, Option, Some, None}
+-- The leaves of a mapping tree's top, by the notes of the roots that they name.
+use Rattle.std.specs.Prelude.{ℕ, Bool, ◌&&◌, ◌||◌, nat_lt, List, ◌≡◌, ◌-◌, ◌^◌, ◌<◌, min, true, false, ◌==◌, if◌then◌else◌, [], ◌∷◌, Option, Some, None}
+use Rattle.std.specs.List.{list_all}
 use Rattle.std.specs.declared.cmp.Ordering.{Ordering}
 use Rattle.std.specs.Ordering.{nat_cmp, ordering_then}
 use Rattle.std.specs.BTreeMap.{BTreeMap, get}
-use Rattle.pd_graph.specs.declared.notes.Notes.{Notes}
 use Rattle.pd_laid.specs.FoundRoots.{is_greater}
-use Rattle.pd_measures.specs.declared.measured.Measured.{Measured}
+use Rattle.pd_graph.specs.declared.notes.Notes.{Notes}
+use Rattle.pd_graph.specs.Format.{Contents}
+use Rattle.pd_graph.specs.Notes.{size_of, note_in}
+use Rattle.pd_settle.specs.Looking.{blocks_of_edges}
+use Rattle.pd_measures.specs.declared.measures.Measured.{Measured}
 use Rattle.pd_measures.specs.declared.measures.Measures.{Measures}
-use Rattle.pd_measures.specs.Measures.{measure_at}
+use Rattle.pd_measures.specs.Measured.{measure_at}
 use Rattle.pd_scan.specs.declared.partners.Partner.{Partner}
 use Rattle.pd_scan.specs.declared.partners.Partners.{Partners}
-use Rattle.pd_scan.specs.Tops.{is_noted_good}
+
+-- there is such a block, and it was noted as a good node
+abbrev pub is_noted_good : Notes → ℕ → Bool
+is_noted_good notes b = nat_lt b (size_of notes) && nat_lt (note_in notes b).height 65
+
+-- the bytes are those of an inner node, or name only blocks that were noted as good nodes
+abbrev pub keeps_roots : Contents → Notes → ℕ → List ℕ → Bool
+keeps_roots contents notes role block =
+    contents.is_inner role block || list_all (is_noted_good notes) (blocks_of_edges (contents.edges role block))
 
 -- the sum of a tree's list of devices, as it is measured: how many mappings there are, and the fingerprint
 abbrev pub sum_of : Measured → ℕ × ℕ

@@ -1,13 +1,13 @@
-//! The numbers of lists of devices: for trees whose sums don't tell their lists apart.
+//! The numbers of lists of devices: for trees whose sums don't tell their lists apart (`thin_repair`).
 
-ghost use Rattle.std.specs.Prelude.{◌≡◌, ℕ, ◌+◌, ◌<◌, ◌≤◌, IfOk, IfSome, OnOk};
+ghost use Rattle.std.specs.Prelude.{◌≡◌, ℕ, ◌+◌, ◌<◌, IfOk, IfSome, OnOk};
 ghost use Rattle.pd_kinds.specs.CheckFault.{CountsCheckFault};
+ghost use Rattle.pd_laid.specs.FoundRoots.{are_fitting, lost_graph};
 ghost use Rattle.pd_image.specs.Device.{IsAttached, OnlyReads};
 ghost use Rattle.pd_graph.specs.Notes.{size_of};
-ghost use Rattle.pd_laid.specs.FoundRoots.{are_fitting, lost_graph};
 ghost use Rattle.pd_scan.specs.Numbers.{AreDetailsNumbered, AreNumbered, AreTold, AreTopsChanged, AreTopsNumbered, IsNumber, with_number};
 ghost use Rattle.pd_scan.specs.Pairs.{AreTreesOf, may_fit, pair_of_trees};
-ghost use Rattle.pd_scan.specs.Trees.{HavePlaces};
+ghost use Rattle.pd_scan.specs.Lost.{HavePlaces};
 
 use crate::tops::is_good;
 use crate::trees::LostTrees;
@@ -84,7 +84,8 @@ fn number_details<D: Device>(
 ) -> Result<Numbers, CheckFault>
     requires attached { IsAttached (D.state dev.old) }
     requires places { HavePlaces (size_of trees.old.tops) trees.old }
-    ensures numbered { IfOk result (λ numbers. IfSome (D.state dev.old).held (λ image. (data_blocks : ℕ) → let graph = lost_graph image data_blocks in
+    ensures numbered { IfOk result (λ numbers. IfSome (D.state dev.old).held
+        (λ image. (data_blocks : ℕ) → let graph = lost_graph image data_blocks in
         AreTold graph image trees.old → AreNumbered graph image trees.new.details_measures (size_of trees.old.tops) numbers)) }
     ensures measures { OnOk result (AreDetailsNumbered trees.old trees.new) }
     ensures kept { OnlyReads (D.state dev.old) (D.state dev.new) }
@@ -137,7 +138,8 @@ fn number_tops<D: Device>(
     requires attached { IsAttached (D.state dev.old) }
     requires places { HavePlaces (size_of trees.old.tops) trees.old }
     ensures numbered { OnOk result (IfSome (D.state dev.old).held (λ image. (data_blocks : ℕ) → let graph = lost_graph image data_blocks in
-        AreTold graph image trees.old → AreTopsNumbered graph image numbers.now (size_of trees.old.tops) (size_of trees.old.tops) trees.new.top_measures)) }
+        AreTold graph image trees.old
+        → AreTopsNumbered graph image numbers.now (size_of trees.old.tops) (size_of trees.old.tops) trees.new.top_measures)) }
     ensures measures { OnOk result (AreTopsChanged trees.old trees.new) }
     ensures kept { OnlyReads (D.state dev.old) (D.state dev.new) }
     ensures faults { CountsCheckFault result (D.state dev.old).faults (D.state dev.new).faults }

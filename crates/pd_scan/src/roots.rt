@@ -1,16 +1,16 @@
-//! The best roots of a pool without its superblock.
+//! The best roots of a pool without its superblock (`thin_repair`).
 
-ghost use Rattle.pd_kinds.specs.declared.limits.TheConstants.{MAX_META_BLOCKS};
 ghost use Rattle.std.specs.Prelude.{◌≡◌, ℕ, ◌≤◌, min, IfOk, IfSome};
+ghost use Rattle.pd_kinds.specs.declared.limits.TheConstants.{MAX_META_BLOCKS};
 ghost use Rattle.pd_kinds.specs.CheckFault.{CountsCheckFault};
 ghost use Rattle.pd_kinds.specs.Layout.{graph_of};
 ghost use Rattle.pd_kinds.specs.ThinFormat.{thin_layout};
-ghost use Rattle.pd_image.specs.Device.{IsAttached, OnlyReads};
 ghost use Rattle.pd_laid.specs.FoundRoots.{IsFound, lost_graph};
+ghost use Rattle.pd_image.specs.Device.{IsAttached, OnlyReads};
 ghost use Rattle.pd_scan.specs.Lost.{IsPool};
-ghost use Rattle.pd_scan.specs.Roots.{AreInside, found_of, lost_fields, roots_of};
+ghost use Rattle.pd_scan.specs.Pairs.{AreInside, found_of, lost_fields, roots_of};
 
-use crate::choosing::choose;
+use crate::fitting::choose;
 use crate::trees::measure_lost;
 use pd_graph::Format;
 use pd_image::Device;
@@ -38,7 +38,7 @@ pub struct Roots {
 impl Roots {
     ghost use Rattle.std.specs.Prelude.{◌≡◌};
     ghost use Rattle.pd_laid.specs.FoundRoots.{is_better};
-    ghost use Rattle.pd_scan.specs.Roots.{roots_of};
+    ghost use Rattle.pd_scan.specs.Pairs.{roots_of};
 
     /// Whether these roots are better than others: the latest time is later. Of the same time it is the later transaction,
     /// then the greater sum of the mappings' times, then the greater number of mappings, the higher first root, and the
@@ -137,7 +137,8 @@ fn find_roots_in<F: Format, D: Device>(
     requires pool { IsPool F.ROLES (F.graph format.now) }
     requires attached { IsAttached (D.state dev.old) }
     requires within { (F.graph format.now).nr ≤ (D.state dev.old).blocks }
-    ensures found { IfOk result (λ found. IfSome (D.state dev.old).held (λ image. (data_blocks : ℕ) → F.graph format.now ≡ lost_graph image data_blocks
+    ensures found { IfOk result (λ found. IfSome (D.state dev.old).held
+        (λ image. (data_blocks : ℕ) → F.graph format.now ≡ lost_graph image data_blocks
         → IsFound (lost_graph image data_blocks) image (found_of found))) }
     ensures inside { IfOk result (λ found. IfSome found (AreInside (F.graph format.now).nr)) }
     ensures kept { OnlyReads (D.state dev.old) (D.state dev.new) }
@@ -164,7 +165,8 @@ pub fn find_roots<D: Device>(
     data_blocks: u64,
 ) -> Result<Option<Roots>, CheckFault>
     requires attached { IsAttached (D.state dev.old) }
-    ensures found { IfOk result (λ found. IfSome (D.state dev.old).held (λ image. IsFound (lost_graph image data_blocks) image (found_of found))) }
+    ensures found { IfOk result (λ found. IfSome (D.state dev.old).held
+        (λ image. IsFound (lost_graph image data_blocks) image (found_of found))) }
     ensures inside { IfOk result (λ found. IfSome found (AreInside (min (D.state dev.old).blocks MAX_META_BLOCKS))) }
     ensures kept { OnlyReads (D.state dev.old) (D.state dev.new) }
     ensures faults { CountsCheckFault result (D.state dev.old).faults (D.state dev.new).faults }

@@ -1,25 +1,22 @@
-//! The states of a pool without its superblock, to choose from.
+//! The states of a pool without its superblock, to choose from (`thin_repair`).
 
-ghost use Rattle.pd_kinds.specs.declared.limits.TheConstants.{MAX_META_BLOCKS};
 ghost use Rattle.std.specs.Prelude.{◌≡◌, ℕ, ◌<◌, ◌≤◌, min, List, ◌∷◌, insert, length, map, take, IfOk, IfSome, OnOk};
 ghost use Rattle.std.specs.List.{AllByRecursion, range_with_len};
+ghost use Rattle.pd_kinds.specs.declared.limits.TheConstants.{MAX_META_BLOCKS};
 ghost use Rattle.pd_kinds.specs.CheckFault.{CountsCheckFault};
+ghost use Rattle.pd_laid.specs.FoundRoots.{IsFound, lost_graph};
+ghost use Rattle.pd_answers.specs.NamedRepairs.{states as the_states};
 ghost use Rattle.pd_image.specs.Device.{IsAttached, OnlyReads};
 ghost use Rattle.pd_graph.specs.Notes.{size_of};
-ghost use Rattle.pd_laid.specs.FoundRoots.{IsFound, lost_graph};
-ghost use Rattle.pd_answers.specs.States.{states as the_states};
 ghost use Rattle.pd_scan.specs.declared.states.State.{State as TheState};
-ghost use Rattle.pd_scan.specs.Lost.{IsPool};
-ghost use Rattle.pd_scan.specs.Pairs.{AreTreesOf};
+ghost use Rattle.pd_scan.specs.Lost.{IsPool, HavePlaces};
+ghost use Rattle.pd_scan.specs.Pairs.{AreTreesOf, AreInside, AreFoundStates, AreStatesOf, HasDevices};
+ghost use Rattle.pd_scan.specs.Pairs.{IsFitting, first_of, place_among, state_roots};
 ghost use Rattle.pd_scan.specs.Partners.{AreBySum};
-ghost use Rattle.pd_scan.specs.Roots.{AreInside};
-ghost use Rattle.pd_scan.specs.States.{AreFoundStates, AreStatesOf, HasDevices, IsFitting, first_of, place_among, state_roots};
-ghost use Rattle.pd_scan.specs.Trees.{HavePlaces};
 
 use crate::fitting::fitting_trees_match;
 use crate::numbering::number_lists;
-use crate::pairs::best_of_top;
-use crate::partners::{BySum, partners_by_sum};
+use crate::partners::{BySum, best_of_top, partners_by_sum};
 use crate::roots::{Roots, lost_format};
 use crate::trees::{LostTrees, measure_lost};
 use pd_graph::Format;
@@ -73,7 +70,8 @@ fn put_best_of_top(
 ) -> Result<(), AllocError>
     requires by_sum { AreBySum trees.now.details trees.now.details_measures (size_of trees.now.details) by_sum.now }
     requires small { top < size_of trees.now.tops }
-    ensures { OnOk result ((tops : List ℕ) → AreStatesOf trees.now tops states.old.items → AreStatesOf trees.now (top ∷ tops) states.new.items) }
+    ensures { OnOk result ((tops : List ℕ) → AreStatesOf trees.now tops states.old.items
+        → AreStatesOf trees.now (top ∷ tops) states.new.items) }
 {
     match best_of_top(trees, by_sum, top) {
         Some(roots) => {
@@ -160,7 +158,8 @@ fn find_states_in<F: Format, D: Device>(
     requires pool { IsPool F.ROLES (F.graph format.now) }
     requires attached { IsAttached (D.state dev.old) }
     requires within { (F.graph format.now).nr ≤ (D.state dev.old).blocks }
-    ensures found { IfOk result (λ found. IfSome (D.state dev.old).held (λ image. (data_blocks : ℕ) → F.graph format.now ≡ lost_graph image data_blocks
+    ensures found { IfOk result (λ found. IfSome (D.state dev.old).held
+        (λ image. (data_blocks : ℕ) → F.graph format.now ≡ lost_graph image data_blocks
         → AreFoundStates (lost_graph image data_blocks) image found.items)) }
     ensures inside { IfOk result (λ found. AllByRecursion (λ (s : TheState). AreInside (F.graph format.now).nr s.roots) found.items) }
     ensures kept { OnlyReads (D.state dev.old) (D.state dev.new) }
@@ -186,9 +185,12 @@ pub fn find_states<D: Device>(
     data_blocks: u64,
 ) -> Result<Vec<State>, CheckFault>
     requires attached { IsAttached (D.state dev.old) }
-    ensures found { IfOk result (λ found. IfSome (D.state dev.old).held (λ image. map state_roots found.items ≡ the_states (lost_graph image data_blocks) image)) }
-    ensures devices { IfOk result (λ found. IfSome (D.state dev.old).held (λ image. AllByRecursion (HasDevices (lost_graph image data_blocks) image) found.items)) }
-    ensures inside { IfOk result (λ found. AllByRecursion (λ (s : TheState). AreInside (min (D.state dev.old).blocks MAX_META_BLOCKS) s.roots) found.items) }
+    ensures found { IfOk result (λ found. IfSome (D.state dev.old).held
+        (λ image. map state_roots found.items ≡ the_states (lost_graph image data_blocks) image)) }
+    ensures devices { IfOk result (λ found. IfSome (D.state dev.old).held
+        (λ image. AllByRecursion (HasDevices (lost_graph image data_blocks) image) found.items)) }
+    ensures inside { IfOk result (λ found. AllByRecursion
+        (λ (s : TheState). AreInside (min (D.state dev.old).blocks MAX_META_BLOCKS) s.roots) found.items) }
     ensures kept { OnlyReads (D.state dev.old) (D.state dev.new) }
     ensures faults { CountsCheckFault result (D.state dev.old).faults (D.state dev.new).faults }
 {

@@ -1,4 +1,5 @@
 //! The nodes of a mapping tree's top: their leaves name the roots of other trees, and are fit only where those are sound.
+//! Serves `thin_repair`.
 
 ghost use Rattle.std.specs.Prelude.{◌≡◌, ℕ, ◌+◌, ◌<◌, ◌≤◌, ◌==◌, ◌&&◌, ◌||◌, not, length, OnOk, IfSome};
 ghost use Rattle.std.specs.List.{list_all};
@@ -7,7 +8,7 @@ ghost use Rattle.pd_kinds.specs.Graph.{block_at};
 ghost use Rattle.pd_image.specs.Device.{IsAttached, OnlyReads};
 ghost use Rattle.pd_settle.specs.Looking.{blocks_of_edges};
 ghost use Rattle.pd_settle.specs.Settled.{is_fit};
-ghost use Rattle.pd_scan.specs.Tops.{is_noted_good, keeps_roots};
+ghost use Rattle.pd_scan.specs.Partners.{is_noted_good, keeps_roots};
 
 use pd_graph::{Format, Notes, has_role};
 use pd_image::{Device, Failed};

@@ -3,23 +3,19 @@ use Rattle.std.proofs.Common.{◌≡◌, ◌≢◌, ◌⊎◌, inl, inr, ℕ, �
 use Rattle.std.specs.List.{slice_get}
 use Rattle.std.specs.Option.{unwrap_or}
 use Rattle.std.proofs.lemmas.Bool.{cases_Bool, cases_eq, both_ways}
-use Rattle.pd_kinds.specs.Edge.{Edge}
-use Rattle.pd_kinds.specs.Graph.{Graph, pair, block_of}
+use Rattle.pd_kinds.specs.Graph.{Edge, Graph, pair, block_of}
 use Rattle.pd_kinds.specs.Lawful.{KeepsLaws}
+use Rattle.pd_kinds.proofs.ResultLemmas.{if_any, if_both}
 use Rattle.pd_graph.specs.declared.notes.Note.{Note}
 use Rattle.pd_graph.specs.declared.notes.Notes.{Notes}
 use Rattle.pd_graph.specs.Format.{Contents, AreContents, IsSound}
 use Rattle.pd_graph.specs.Notes.{size_of, note_in}
 use Rattle.pd_graph.proofs.BitLemmas.{pair_block}
-use Rattle.pd_graph.proofs.AnyLemmas.{if_both, if_any}
-use Rattle.pd_settle.specs.Good.{is_good_node, AreSettleable, IsGoodNote}
-use Rattle.pd_settle.specs.Looking.{blocks_of_edges}
-use Rattle.pd_settle.specs.Stepping.{open_note, IsVerdict, Opens, Settles, Closes}
-use Rattle.pd_settle.specs.Ordering.{IsOrdering, IsClosed, KeepsKnown}
+use Rattle.pd_settle.specs.Settled.{is_good_node, AreSettleable, IsGoodNote, IsOrdering, IsClosed, KeepsKnown}
+use Rattle.pd_settle.specs.Looking.{blocks_of_edges, open_note, IsVerdict, Opens, Settles, Closes}
 use Rattle.pd_settle.proofs.ChainLemmas.{is_among}
-use Rattle.pd_settle.proofs.StackLemmas.{IsStack, Changes, changed_here, changed_there, stack_opened, stack_closed, AreStacked, all_opened, all_closed}
+use Rattle.pd_settle.proofs.VerdictLemmas.{IsStack, Changes, changed_here, changed_there, stack_opened, stack_closed, AreStacked, all_opened, all_closed, IsRight, verdict_height, verdict_right}
 use Rattle.pd_settle.proofs.NodeLemmas.{child_at, IsTrail}
-use Rattle.pd_settle.proofs.VerdictLemmas.{IsRight, verdict_height, verdict_right}
 
 -- what holds of the notes that stay, and of the one that is replaced
 module _ (graph : Graph) (image : List (List ℕ)) (nodes fit : ℕ → Bool) (strict : Bool) (old new : ℕ → Note) (b role : ℕ) (note : Note) (within : role < 16)

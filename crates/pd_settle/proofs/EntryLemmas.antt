@@ -1,26 +1,27 @@
 -- In a tree without a bad rule the keys below a node are those of the entries below it.
-use Rattle.std.proofs.Common.{◌≡◌, ℕ, zero, suc, ◌<◌, Bool, true, false, ◌&&◌, not, cond, List, [], ◌∷◌, ◌++◌, length, map, refl, sym, ◌∙◌, ap, arith}
-use Rattle.std.specs.List.{list_any, flat_map, AllByRecursion, range_with_len}
+use Rattle.std.proofs.Common.{◌≡◌, ℕ, zero, suc, ◌<◌, Bool, true, false, ◌&&◌, not, cond, List, [], ◌∷◌, ◌++◌, length, map, refl, sym, ◌∙◌, ap, arith, ◌||◌, subst}
+use Rattle.std.specs.List.{flat_map, AllByRecursion, range_with_len}
 use Rattle.std.proofs.lemmas.Bool.{both_ways, and_from, and_parts}
 use Rattle.std.proofs.lemmas.List.{length-map, map-append}
 use Rattle.pd_kinds.specs.declared.rule.Rule.{Rule}
-use Rattle.pd_kinds.specs.Rule.{all_rules}
+use Rattle.pd_kinds.specs.Rule.{all_rules, same_rule}
 use Rattle.pd_kinds.specs.Node.{Entry, is_inner_node, entry_count, key_at, value_at, node_keys}
 use Rattle.pd_kinds.specs.Layout.{Layout, Tree, tree, layout_bad, is_bad, is_tree_layout, layout_keys, leaf_entries, node_entries_of, graph_of}
-use Rattle.pd_kinds.specs.Graph.{Graph, block_at, pair, block_of, role_of, own_keys, is_inner_pair, is_reached}
+use Rattle.pd_kinds.specs.Graph.{Graph, block_at, pair, block_of, role_of, own_keys, is_inner_pair, is_reached, children, gathered, keys_below, has_chain, is_deep, is_in_range}
 use Rattle.pd_kinds.specs.Lawful.{IsLawful}
-use Rattle.pd_kinds.specs.Order.{children, gathered, keys_below}
-use Rattle.pd_kinds.specs.Stages.{walk_bad, order_bad}
+use Rattle.pd_kinds.specs.Stages.{walk_bad, order_bad, is_out_of_range}
 use Rattle.pd_kinds.specs.Trees.{entries_below, keys_of}
+use Rattle.pd_kinds.proofs.KindLemmas.{none_broken}
+use Rattle.pd_kinds.specs.declared.rule.Rule.TheVariants as r
 use Rattle.pd_graph.specs.declared.audit.Audit.{Audit}
 use Rattle.pd_graph.specs.Format.{IsSound}
 use Rattle.pd_graph.specs.Audit.{note_at}
 use Rattle.pd_graph.proofs.BitLemmas.{pair_block, pair_role}
-use Rattle.pd_settle.specs.Ordering.{is_node}
-use Rattle.pd_settle.specs.Settled.{IsSettled}
+use Rattle.pd_settle.specs.Settled.{is_node, IsSettled, IsClean}
 use Rattle.pd_settle.proofs.ChainLemmas.{is_among, all_among}
-use Rattle.pd_settle.proofs.ReachLemmas.{reached_within, child_of, child_role, any_child_node}
-use Rattle.pd_settle.proofs.CleanLemmas.{clean_by}
+use Rattle.pd_settle.proofs.NodeLemmas.{reached_within, child_of, child_role, any_child_node, clean_by, order_bad_at}
+use Rattle.pd_settle.specs.Notes.{capped}
+use Rattle.pd_settle.proofs.FineLemmas.{AreFine, exact_of}
 
 flat_map_by : {X Y : Type 0} → (f : X → Y) (g : ℕ → List X) (h : ℕ → List Y) (ps : List ℕ) → AllByRecursion (λ p. h p ≡ map f (g p)) ps
     → flat_map h ps ≡ map f (flat_map g ps)
@@ -47,11 +48,6 @@ gathered_map f inner down own own' S closed same (suc j) p met =
     (all_among (λ q. gathered inner down own' j q ≡ map f (gathered inner down own j q)) (down p)
     (λ q among. gathered_map f inner down own own' S closed same j q (closed p q met among))))
     (same p met)
-
--- no rule is broken
-none_broken : (bad : Rule → Bool) → ((rule : Rule) → bad rule ≡ false) → (rules : List Rule) → list_any bad rules ≡ false
-none_broken bad holds [] = refl
-none_broken bad holds (rule ∷ rules) = rw (holds rule) (none_broken bad holds rules)
 
 leaf_by : (is_tree bad inner : Bool) → is_tree ≡ true → bad ≡ false → (is_tree && (not bad && inner)) ≡ false → inner ≡ false
 leaf_by true false inner e f leaf = leaf
@@ -132,3 +128,56 @@ module _ (roles nr data_blocks : ℕ) (layout : ℕ → Layout) (t : Tree) (imag
       ap (λ (c : ℕ). (note_at audit c).below) (sym (pair_block b role within))
       ∙ (settled.exact ordered (pair b role) node
       ∙ (ap (λ (ks : List ℕ). length ks) (keys_are_of_entries b reached) ∙ length-map {A = Entry} {B = ℕ} entries (λ e. e.key)))
+
+-- Where no block has Level or Range, each node of a tree is shallow and in range, and the number of keys below it is exact.
+
+module _ (graph : Graph) (image : List (List ℕ)) (lawful : IsLawful graph) (clean : IsClean graph image)
+    (ordered : (b : ℕ) (wanted : Rule) → b < graph.nr → order_bad graph image b wanted ≡ false) where
+  -- a node is neither deep nor out of range
+  level_none : (d o : Bool) → ((d && same_rule r.Level r.Level) || (o && same_rule r.Range r.Level)) ≡ false → d ≡ false
+  level_none false o e = refl
+  level_none true o e = absurd (both_ways true e refl)
+
+  range_none : (d o : Bool) → ((d && same_rule r.Level r.Range) || (o && same_rule r.Range r.Range)) ≡ false → o ≡ false
+  range_none d false e = refl
+  range_none true true e = absurd (both_ways true e refl)
+  range_none false true e = absurd (both_ways true e refl)
+
+  order_none_at : (p : ℕ) (wanted : Rule) → is_node graph image p ≡ true
+      → ((is_deep graph image p && same_rule r.Level wanted) || (is_out_of_range graph image p && same_rule r.Range wanted)) ≡ false
+  order_none_at p wanted node =
+      let reached = (and_parts (is_reached graph image p) (graph.is_tree (role_of p)) node).0 in
+      let small = (reached_within graph image p lawful reached).1 in
+      let e : pair (block_of p) (role_of p) ≡ p = omega arith in
+      subst (λ (q : ℕ). ((is_deep graph image q && same_rule r.Level wanted) || (is_out_of_range graph image q && same_rule r.Range wanted)) ≡ false) e
+      (sym (order_bad_at graph image (block_of p) (role_of p) wanted (omega arith) (omega arith) clean (ap (is_reached graph image) e ∙ reached)) ∙ ordered (block_of p) wanted (omega arith))
+
+  pub never_deep : (p : ℕ) → is_node graph image p ≡ true → is_deep graph image p ≡ false
+  never_deep p node = level_none (is_deep graph image p) (is_out_of_range graph image p) (order_none_at p r.Level node)
+
+  shallow_chain : (p : ℕ) → is_node graph image p ≡ true → has_chain (children graph image) 64 p ≡ false
+  unfolding is_deep
+  shallow_chain p node = never_deep p node
+
+  range_by : (i d g : Bool) → i ≡ true → d ≡ false → (i && (not d && not g)) ≡ false → g ≡ true
+  range_by true false true e f out = refl
+  range_by true false false e f out = absurd (both_ways true out refl)
+  range_by true true g e f out = absurd (both_ways true f refl)
+  range_by false d g e f out = absurd (both_ways false refl e)
+
+  always_in_range : (p : ℕ) → is_node graph image p ≡ true → is_inner_pair graph image p ≡ true → is_in_range graph image p ≡ true
+  unfolding is_out_of_range
+  always_in_range p node e =
+      range_by (is_inner_pair graph image p) (is_deep graph image p) (is_in_range graph image p) e (never_deep p node)
+      (range_none (is_deep graph image p) (is_out_of_range graph image p) (order_none_at p r.Range node))
+
+  nodes_are_fine : AreFine graph image (is_node graph image)
+  nodes_are_fine = record {
+    within = λ p node. reached_within graph image p lawful (and_parts (is_reached graph image p) (graph.is_tree (role_of p)) node).0;
+    closed = any_child_node graph image lawful;
+    shallow = shallow_chain;
+    ranged = always_in_range;
+  }
+
+  pub exact_at : (p : ℕ) → is_node graph image p ≡ true → capped (length (keys_below graph image p)) ≡ length (keys_below graph image p)
+  exact_at p node = exact_of graph image (is_node graph image) lawful nodes_are_fine p node

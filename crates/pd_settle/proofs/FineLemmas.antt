@@ -3,17 +3,15 @@ use Rattle.std.proofs.Common.{◌≡◌, ◌⊎◌, inl, inr, ℕ, zero, suc, �
 use Rattle.std.specs.List.{list_all, flat_map, AllByRecursion, range_with_len}
 use Rattle.std.proofs.lemmas.Bool.{cases_Bool, or_cases, or_left, or_right, and_parts, and_from, eqb-true, both_ways, cases_eq, ltb-true, ltb-false, lt-ltb, le-ltb, not-true}
 use Rattle.std.proofs.lemmas.List.Folds.{list_any-append}
-use Rattle.pd_kinds.specs.Node.{is_ascending}
 use Rattle.std.proofs.lemmas.List.FromFn.{length-range_with_len}
-use Rattle.pd_kinds.specs.Graph.{Graph, block_at, block_of, role_of, pair, own_keys, is_inner_pair, edges_of, next}
-use Rattle.pd_kinds.specs.Lawful.{IsLawful, KeepsLaws}
-use Rattle.pd_kinds.specs.Edge.{Edge}
 use Rattle.std.proofs.lemmas.List.{length-map, append-nil}
+use Rattle.pd_kinds.specs.Node.{is_ascending}
+use Rattle.pd_kinds.specs.Graph.{Graph, block_at, block_of, role_of, pair, own_keys, is_inner_pair, edges_of, next, Edge, children, has_chain, is_in_range, keys_below, are_children_in_range, gathered}
+use Rattle.pd_kinds.specs.Lawful.{IsLawful, KeepsLaws}
+use Rattle.pd_kinds.proofs.ListLemmas.{length-flat_map}
 use Rattle.pd_settle.specs.Notes.{capped}
 use Rattle.pd_settle.proofs.KeyLemmas.{gathered_step}
-use Rattle.pd_settle.proofs.NotedLemmas.{chain_none}
-use Rattle.pd_kinds.specs.Order.{children, has_chain, is_in_range, keys_below, are_children_in_range, gathered}
-use Rattle.pd_laws.proofs.AllLemmas.{length-flat_map}
+use Rattle.pd_settle.proofs.GoodLemmas.{chain_none}
 use Rattle.pd_settle.proofs.ChainLemmas.{is_among, all_among, ends_below}
 
 -- keys that ascend, from a low end on, and below a high one

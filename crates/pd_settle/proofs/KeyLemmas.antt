@@ -1,17 +1,20 @@
 -- Keys below a node, by its children; and what their notes say of them.
-use Rattle.std.proofs.Common.{◌≡◌, ◌⊎◌, inl, inr, ℕ, zero, suc, ◌≤◌, min, max, Bool, true, false, ◌&&◌, not, cond, nat_eq, nat_lt, List, [], ◌∷◌, ◌++◌, length, map, Option, Some, None, refl, sym, ◌∙◌, ap, arith, length-append}
+use Rattle.std.proofs.Common.{◌≡◌, ◌⊎◌, inl, inr, ℕ, zero, suc, ◌≤◌, min, max, Bool, true, false, ◌&&◌, not, cond, nat_eq, nat_lt, List, [], ◌∷◌, ◌++◌, length, map, Option, Some, None, refl, sym, ◌∙◌, ap, arith, length-append, append_assoc, eq-eqb, ◌-◌, ◌<◌}
 use Rattle.std.specs.Option.{is_some}
-use Rattle.std.specs.List.{list_any, list_all, flat_map, AllByRecursion}
-use Rattle.std.proofs.lemmas.Bool.{or_left, or_right, both_ways, cases_lt, lt-ltb, le-ltb}
-use Rattle.pd_kinds.specs.Order.{has_chain, gathered, is_child_in_range, are_children_in_range}
-use Rattle.pd_laws.proofs.AllLemmas.{none_passes, all_from}
-use Rattle.pd_graph.specs.declared.notes.Note.{Note}
-use Rattle.pd_settle.specs.Notes.{lower, higher, least_of, greatest_of, keys_note, join, joined, keeps_floor, keeps_ceiling, is_note_in_range, are_notes_in_range}
-use Rattle.pd_settle.proofs.ChainLemmas.{is_among}
-use Rattle.pd_graph.proofs.BitLemmas.{differ}
-use Rattle.std.proofs.Common.{append_assoc, eq-eqb}
+use Rattle.std.specs.List.{list_any, list_all, flat_map, AllByRecursion, slice_get}
+use Rattle.std.proofs.lemmas.Bool.{or_left, or_right, both_ways, cases_lt, lt-ltb, le-ltb, and_parts, or_cases, ltb-true, eqb-true}
 use Rattle.std.proofs.Math.Bool.{and-true}
 use Rattle.std.proofs.lemmas.List.{append-nil}
+use Rattle.pd_kinds.specs.Graph.{has_chain, gathered, is_child_in_range, are_children_in_range, Edge, Graph}
+use Rattle.pd_kinds.proofs.NumberLemmas.{differ}
+use Rattle.pd_kinds.proofs.ListLemmas.{none_passes, all_from}
+use Rattle.pd_kinds.specs.Node.{is_ascending}
+use Rattle.pd_kinds.specs.Lawful.{IsWithin}
+use Rattle.pd_graph.specs.declared.notes.Note.{Note}
+use Rattle.pd_graph.specs.Notes.{ends_note}
+use Rattle.pd_settle.specs.Notes.{lower, higher, least_of, greatest_of, keys_note, join, joined, keeps_floor, keeps_ceiling, is_note_in_range, are_notes_in_range, capped}
+use Rattle.pd_settle.proofs.ChainLemmas.{is_among, max_either}
+use Rattle.pd_settle.specs.Looking.{blocks_of_edges}
 
 flat_map_same : {X : Type 0} → (f g : ℕ → List X) (xs : List ℕ) → AllByRecursion (λ c. f c ≡ g c) xs → flat_map f xs ≡ flat_map g xs
 flat_map_same f g [] all = refl
@@ -103,15 +106,12 @@ joined_within notes most (c ∷ cs) sum start each =
     let first = each.0 in
     joined_within notes most cs (join sum (notes c)) (omega arith) each.1
 
-max_cases : (a b : ℕ) → (max a b ≡ a) ⊎ (max a b ≡ b)
-max_cases a b = elim (cases_lt a b) [ inl e ↦ inr (omega arith) | inr e ↦ inl (omega arith) ]
-
 -- and it is that of one of them
 pub joined_is : (notes : ℕ → Note) (cs : List ℕ) (sum : Note)
     → ((joined notes sum cs).height ≡ sum.height) ⊎ ((c : ℕ) × (is_among c cs ≡ true) × ((joined notes sum cs).height ≡ (notes c).height))
 joined_is notes [] sum = inl refl
 joined_is notes (c ∷ cs) sum = elim (joined_is notes cs (join sum (notes c))) [
-  | inl e ↦ elim (max_cases sum.height (notes c).height) [
+  | inl e ↦ elim (max_either sum.height (notes c).height) [
     | inl a ↦ inl (e ∙ a)
     | inr b ↦ inr (c, or_left (nat_eq c c) _ (eq-eqb c c refl), e ∙ b)
   ]
@@ -174,3 +174,48 @@ ranges_kept keys notes (low ∷ high ∷ lows) (c ∷ cs) each =
     ap (λ (b : Bool). b && are_children_in_range (high ∷ lows) (map keys cs))
     (range_kept low (Some high) (keys c) (notes c).height (notes c).in_range ∙ ap (is_note_in_range low (Some high)) (sym each.0))
     ∙ ap (λ (b : Bool). is_note_in_range low (Some high) (notes c) && b) (ranges_kept keys notes (high ∷ lows) cs each.1)
+
+-- The keys of a leaf ascend: the first is the least, and the last the greatest. Children lie within.
+
+least_first : (x : ℕ) (xs : List ℕ) → is_ascending (x ∷ xs) ≡ true → least_of (x ∷ xs) ≡ Some x
+unfolding is_ascending
+least_first x [] up = refl
+least_first x (y ∷ ys) up =
+    let parts = and_parts (nat_lt x y) (is_ascending (y ∷ ys)) up in
+    let less = ltb-true x y parts.0 in
+    ap (lower (Some x)) (least_first y ys parts.1) ∙ ap (λ (n : ℕ). Some n) (let e : min x y ≡ x = omega arith in e)
+
+greatest_last : (x : ℕ) (xs : List ℕ) → is_ascending (x ∷ xs) ≡ true
+    → (g : ℕ) × (greatest_of (x ∷ xs) ≡ Some g) × (x ≤ g) × (slice_get (x ∷ xs) (length xs) ≡ Some g)
+unfolding is_ascending
+greatest_last x [] up = (x, refl, omega arith, refl)
+greatest_last x (y ∷ ys) up =
+    let parts = and_parts (nat_lt x y) (is_ascending (y ∷ ys)) up in
+    let less = ltb-true x y parts.0 in
+    let rest = greatest_last y ys parts.1 in
+    let more = rest.2 in
+    (rest.0, ap (higher (Some x)) rest.1 ∙ ap (λ (n : ℕ). Some n) (let e : max x rest.0 ≡ rest.0 = omega arith in e), omega arith, rest.3)
+
+pub least_at : (xs : List ℕ) → is_ascending xs ≡ true → slice_get xs 0 ≡ least_of xs
+least_at [] up = refl
+least_at (x ∷ xs) up = sym (least_first x xs up)
+
+pub greatest_at : (xs : List ℕ) → is_ascending xs ≡ true → slice_get xs (length xs - 1) ≡ greatest_of xs
+greatest_at [] up = refl
+greatest_at (x ∷ xs) up =
+    let last = greatest_last x xs up in
+    ap (slice_get (x ∷ xs)) (let e : suc (length xs) - 1 ≡ length xs = omega arith in e) ∙ (last.3 ∙ sym last.1)
+
+pub ends_are_noted : (xs : List ℕ) → is_ascending xs ≡ true → length xs ≤ 338 → ends_note xs ≡ keys_note xs 1 true
+ends_are_noted xs up few =
+    let c : length xs ≡ capped (length xs) = omega arith in
+    same_notes _ _ _ _ _ _ 1 true (least_at xs up) (greatest_at xs up) c
+
+-- a block that an edge leads to is one of those that there are
+pub among_within : (graph : Graph) (edges : List Edge) (c : ℕ) → AllByRecursion (IsWithin graph) edges → list_any (λ d. nat_eq d c) (blocks_of_edges edges) ≡ true
+    → c < graph.nr
+among_within graph [] c all leads = absurd (both_ways _ refl leads)
+among_within graph (x ∷ xs) c all leads = elim (or_cases (nat_eq x.block c) _ leads) [
+  | inl same ↦ let e = eqb-true x.block c same in let first = all.0.below in omega arith
+  | inr later ↦ among_within graph xs c all.1 later
+]

@@ -1,23 +1,26 @@
 -- A node of a tree and its children, as its block shows them.
-use Rattle.std.proofs.Common.{◌≡◌, inl, inr, ℕ, ◌*◌, ◌/◌, ◌%◌, ◌<◌, Bool, true, false, ◌&&◌, ◌||◌, cond, nat_eq, List, [], ◌∷◌, map, refl, sym, ◌∙◌, ap, arith, eq-eqb}
+use Rattle.std.proofs.Common.{◌≡◌, inl, inr, ℕ, ◌*◌, ◌/◌, ◌%◌, ◌<◌, Bool, true, false, ◌&&◌, ◌||◌, cond, nat_eq, List, [], ◌∷◌, map, refl, sym, ◌∙◌, ap, arith, eq-eqb, zero, suc, ◌+◌, ◌≤◌, length, filter}
 use Rattle.std.specs.List.{list_any, AllByRecursion, range_with_len}
-use Rattle.std.proofs.lemmas.Bool.{or_cases, or_left, or_right, and_parts, and_from, eqb-true, both_ways}
+use Rattle.std.proofs.lemmas.Bool.{or_cases, or_left, or_right, and_parts, and_from, eqb-true, both_ways, cases_Bool, cases_eq, cases_lt, lt-ltb}
 use Rattle.pd_kinds.specs.declared.rule.Rule.{Rule}
-use Rattle.pd_kinds.specs.declared.rule.Rule.TheVariants as r
 use Rattle.pd_kinds.specs.Rule.{same_rule}
-use Rattle.pd_kinds.specs.Edge.{Edge}
-use Rattle.pd_kinds.specs.Graph.{Graph, block_at, pair, own_keys, is_inner_pair, next, is_reached}
-use Rattle.pd_kinds.specs.Lawful.{KeepsLaws}
-use Rattle.pd_kinds.specs.Order.{children, has_chain, is_deep}
-use Rattle.pd_kinds.specs.Paths.{edge}
-use Rattle.pd_kinds.specs.Stages.{roles_of, order_bad, is_out_of_range}
-use Rattle.pd_laws.proofs.PathLemmas.{path_from_reached, reached_from_path, passing_below, passes_below}
+use Rattle.pd_kinds.specs.Graph.{Edge, Graph, block_at, pair, own_keys, is_inner_pair, next, is_reached, children, has_chain, is_deep, block_of, role_of, edges_of}
+use Rattle.pd_kinds.specs.Lawful.{KeepsLaws, IsLawful}
+use Rattle.pd_kinds.specs.Paths.{edge, IsOnPath, start}
+use Rattle.pd_kinds.specs.Stages.{roles_of, order_bad, is_out_of_range, walk_bad}
+use Rattle.pd_kinds.proofs.NumberLemmas.{same_test}
+use Rattle.pd_kinds.proofs.PathLemmas.{path_from_reached, reached_from_path, passing_below, passes_below}
+use Rattle.pd_kinds.specs.declared.rule.Rule.TheVariants as r
 use Rattle.pd_graph.specs.declared.notes.Note.{Note}
 use Rattle.pd_graph.proofs.BitLemmas.{pair_block, pair_role}
-use Rattle.pd_graph.proofs.AnyLemmas.{same_test, any_kept}
+use Rattle.pd_graph.proofs.AnyLemmas.{any_kept}
+use Rattle.pd_graph.proofs.WalkLemmas.{leads_within}
+use Rattle.pd_graph.specs.declared.audit.Audit.{Audit}
+use Rattle.pd_graph.specs.Audit.{has_rule_at}
+use Rattle.pd_graph.specs.Walk.{IsWalked}
 use Rattle.pd_settle.specs.Notes.{join, joined, are_notes_in_range}
 use Rattle.pd_settle.specs.Looking.{blocks_of_edges}
-use Rattle.pd_settle.specs.Ordering.{IsClean}
+use Rattle.pd_settle.specs.Settled.{IsClean, is_node, AreSettleable}
 use Rattle.pd_settle.proofs.ChainLemmas.{is_among, never_ends}
 
 -- what leads on from a pair that is reached is reached
@@ -167,3 +170,154 @@ trail_is_deep graph image nodes role b c j rest trail among leads =
           let above = trail_child graph image nodes role b within.0 rest trail later in
           (pair above.0 role, (above.0, above.1, refl), ap (λ (q : ℕ). is_among (pair above.0 role) (children graph image q)) within.2 ∙ above.2)
     ]) j (pair c role) (c, among, refl)
+
+-- What is reached lies within, and the children of a node are nodes.
+
+-- a pair that is reached lies within
+path_within : (graph : Graph) (image : List (List ℕ)) (p : ℕ) → IsLawful graph → IsOnPath (16 * graph.nr) (next graph image) p → (p % 16 < graph.roles) × (p < 16 * graph.nr)
+unfolding next
+path_within graph image p lawful start = let some = lawful.some_role in let blocks = lawful.some_block in (omega arith, omega arith)
+path_within graph image p lawful (edge q p' small path leads) =
+    let before = path_within graph image q lawful path in
+    leads_within graph (edges_of graph image q) p' lawful.few_roles (lawful.each (role_of q) (block_of q) (block_at image (block_of q)) before.0).within leads
+
+pub reached_within : (graph : Graph) (image : List (List ℕ)) (p : ℕ) → IsLawful graph → is_reached graph image p ≡ true → (p % 16 < graph.roles) × (p < 16 * graph.nr)
+unfolding is_reached
+reached_within graph image p lawful reached = path_within graph image p lawful (path_from_reached (16 * graph.nr) (next graph image) (16 * graph.nr) p reached)
+
+-- the role of what an inner node leads to
+leads_role : (role : ℕ) (edges : List Edge) (t : ℕ) → role < 16 → AllByRecursion (λ (e : Edge). e.role ≡ role) edges
+    → is_among t (map (λ (e : Edge). pair e.block e.role) edges) ≡ true → t % 16 ≡ role
+leads_role role [] t within all leads = absurd (both_ways _ refl leads)
+leads_role role (x ∷ xs) t within all leads = elim (or_cases (nat_eq (pair x.block x.role) t) _ leads) [
+  | inl same ↦
+      let e = eqb-true (pair x.block x.role) t same in
+      let first = all.0 in
+      omega arith
+  | inr later ↦ leads_role role xs t within all.1 later
+]
+
+module _ (graph : Graph) (image : List (List ℕ)) (lawful : IsLawful graph) where
+  child_cases : (p q : ℕ) (x : Bool) → is_inner_pair graph image p ≡ x → is_among q (cond x (next graph image p) []) ≡ true
+      → (is_inner_pair graph image p ≡ true) × (is_among q (next graph image p) ≡ true)
+  child_cases p q true e among = (e, among)
+  child_cases p q false e among = absurd (both_ways _ refl among)
+
+  pub child_of : (p q : ℕ) → is_among q (children graph image p) ≡ true → (is_inner_pair graph image p ≡ true) × (is_among q (next graph image p) ≡ true)
+  unfolding children
+  child_of p q among = child_cases p q (is_inner_pair graph image p) refl among
+
+  -- a child has the role of the node, and lies within
+  pub role_of_child : (p q : ℕ) → role_of p < graph.roles → is_inner_pair graph image p ≡ true → is_among q (next graph image p) ≡ true → role_of q ≡ role_of p
+  unfolding next
+  role_of_child p q known e leads =
+      let few = lawful.few_roles in
+      leads_role (role_of p) (edges_of graph image p) q (omega arith)
+      ((lawful.each (role_of p) (block_of p) (block_at image (block_of p)) known).inner_edges e) leads
+
+  pub child_within : (p q : ℕ) → role_of p < graph.roles → is_among q (next graph image p) ≡ true → (q % 16 < graph.roles) × (q < 16 * graph.nr)
+  unfolding next
+  child_within p q known leads =
+      leads_within graph (edges_of graph image p) q lawful.few_roles (lawful.each (role_of p) (block_of p) (block_at image (block_of p)) known).within leads
+
+  pub child_role : (p q : ℕ) → is_reached graph image p ≡ true → is_inner_pair graph image p ≡ true → is_among q (next graph image p) ≡ true → role_of q ≡ role_of p
+  child_role p q reached e leads = role_of_child p q (reached_within graph image p lawful reached).0 e leads
+
+  pub any_child_node : (p q : ℕ) → is_node graph image p ≡ true → is_among q (children graph image p) ≡ true → is_node graph image q ≡ true
+  any_child_node p q node among =
+      let parts = and_parts _ _ node in
+      let child = child_of p q among in
+      and_from _ _ (reached_next graph image p q (reached_within graph image p lawful parts.0).1 parts.0 child.1)
+      (ap graph.is_tree (child_role p q parts.0 child.0 child.1) ∙ parts.1)
+
+-- What the stage Walk says of a clean image: each block has one role, and no bad rule in it.
+
+-- two numbers of a range that pass
+keeps_one : (b : Bool) (x : ℕ) (kept : List ℕ) → length kept ≤ length (cond b (x ∷ kept) kept)
+keeps_one true x kept = omega arith
+keeps_one false x kept = omega arith
+
+takes_one : (b : Bool) (x : ℕ) (kept : List ℕ) → b ≡ true → length (cond b (x ∷ kept) kept) ≡ suc (length kept)
+takes_one b x kept e = ap (λ (c : Bool). length (cond c (x ∷ kept) kept)) e
+
+one_passes_from : (f : ℕ → Bool) (a n x : ℕ) → a ≤ x → x < a + n → f x ≡ true → 1 ≤ length (filter f (range_with_len a n))
+one_passes_from f a zero x low high passes = absurd (omega arith)
+one_passes_from f a (suc n) x low high passes =
+    let rest = filter f (range_with_len (a + 1) n) in
+    elim (cases_eq a x) [
+      | inl same ↦ let more = takes_one (f a) a rest (ap f same ∙ passes) in omega arith
+      | inr ne ↦
+          let later = one_passes_from f (a + 1) n x (omega arith) (omega arith) passes in
+          let more = keeps_one (f a) a rest in
+          omega arith
+    ]
+
+two_pass_from : (f : ℕ → Bool) (a n x y : ℕ) → a ≤ x → x < y → y < a + n → f x ≡ true → f y ≡ true → 2 ≤ length (filter f (range_with_len a n))
+two_pass_from f a zero x y low order high first second = absurd (omega arith)
+two_pass_from f a (suc n) x y low order high first second =
+    let rest = filter f (range_with_len (a + 1) n) in
+    elim (cases_eq a x) [
+      | inl same ↦
+          let more = takes_one (f a) a rest (ap f same ∙ first) in
+          let later = one_passes_from f (a + 1) n y (omega arith) (omega arith) second in
+          omega arith
+      | inr ne ↦
+          let later = two_pass_from f (a + 1) n x y (omega arith) order (omega arith) first second in
+          let more = keeps_one (f a) a rest in
+          omega arith
+    ]
+
+-- so a block that is reached in two roles has the rule Role
+several_bad : (graph : Graph) (image : List (List ℕ)) (b x y : ℕ) → x < y → y < 16 → is_reached graph image (pair b x) ≡ true → is_reached graph image (pair b y) ≡ true
+    → walk_bad graph image b r.Role ≡ true
+unfolding walk_bad roles_of
+several_bad graph image b x y order within first second =
+    let test = λ (role : ℕ). is_reached graph image (pair b role) in
+    let two = two_pass_from test 0 16 x y (omega arith) order (omega arith) first second in
+    or_right (list_any (λ role. graph.bad role b (block_at image b) r.Role) (filter test (range_with_len 0 16))) _
+    (ap (λ (x : Bool). x && true) (lt-ltb 1 (length (filter test (range_with_len 0 16))) two))
+
+-- nor a bad rule in a role in which it is reached
+role_bad : (graph : Graph) (image : List (List ℕ)) (b role : ℕ) (broken : Rule) → role < 16 → is_reached graph image (pair b role) ≡ true
+    → graph.bad role b (block_at image b) broken ≡ true → walk_bad graph image b broken ≡ true
+unfolding walk_bad roles_of
+role_bad graph image b role broken within reached e =
+    let bad = λ (s : ℕ). graph.bad s b (block_at image b) broken in
+    let test = λ (s : ℕ). is_reached graph image (pair b s) in
+    or_left (list_any bad (filter test (range_with_len 0 16))) _
+    (any_kept bad test (range_with_len 0 16) ∙ passes_below (λ s. test s && bad s) 16 role within (and_from _ _ reached e))
+
+pub clean_by : (graph : Graph) (image : List (List ℕ)) → ((b : ℕ) (rule : Rule) → b < graph.nr → walk_bad graph image b rule ≡ false) → IsClean graph image
+clean_by graph image none = record {
+  alone = λ p q small first second same.
+      let b = block_of q in
+      let first' : is_reached graph image (pair b (role_of p)) ≡ true = ap (is_reached graph image) (let e : pair b (role_of p) ≡ p = omega arith in e) ∙ first in
+      let second' : is_reached graph image (pair b (role_of q)) ≡ true = ap (is_reached graph image) (let e : pair b (role_of q) ≡ q = omega arith in e) ∙ second in
+      elim (cases_eq (role_of p) (role_of q)) [
+        | inl e ↦ omega arith
+        | inr ne ↦ elim (cases_lt (role_of p) (role_of q)) [
+          | inl less ↦ absurd (both_ways _ (none b r.Role small) (several_bad graph image b (role_of p) (role_of q) less (omega arith) first' second'))
+          | inr more ↦ absurd (both_ways _ (none b r.Role small) (several_bad graph image b (role_of q) (role_of p) (omega arith) (omega arith) second' first'))
+        ]
+      ];
+  sound = λ b role small within reached broken. elim (cases_Bool (graph.bad role b (block_at image b) broken)) [
+    | inl e ↦ absurd (both_ways _ (none b broken small) (role_bad graph image b role broken within reached e))
+    | inr e ↦ e
+  ];
+}
+
+-- and so of an audit without a rule
+pub clean_of : (graph : Graph) (image : List (List ℕ)) (audit : Audit) → IsWalked graph image audit
+    → ((b : ℕ) (rule : Rule) → b < graph.nr → has_rule_at audit b rule ≡ false) → IsClean graph image
+clean_of graph image audit walked sound = clean_by graph image (λ b rule small. sym (walked.rules b rule small) ∙ sound b rule small)
+
+-- so the nodes of the trees can be settled, and each block counts as fit
+pub settleable_of : (graph : Graph) (image : List (List ℕ)) → IsLawful graph → IsClean graph image → AreSettleable graph image (is_node graph image) (λ c. true)
+settleable_of graph image lawful clean = record {
+  alone = λ p q first second same.
+      let reached = (and_parts (is_reached graph image q) (graph.is_tree (role_of q)) second).0 in
+      let small = (reached_within graph image q lawful reached).1 in
+      clean.alone p q (omega arith) (and_parts (is_reached graph image p) (graph.is_tree (role_of p)) first).0 reached same;
+  sound = λ b role small within node fit. clean.sound b role small within (and_parts (is_reached graph image (pair b role)) (graph.is_tree (role_of (pair b role))) node).0;
+  closed = any_child_node graph image lawful;
+}

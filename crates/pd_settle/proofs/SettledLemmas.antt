@@ -4,30 +4,26 @@ use Rattle.std.specs.List.{list_any, range_with_len}
 use Rattle.std.proofs.Math.Bool.{or-false}
 use Rattle.std.proofs.lemmas.Bool.{cases_Bool, cases_eq, cases_lt, ne_eqb, both_ways, and_parts, and_from, lt-ltb, le-ltb, ltb-true}
 use Rattle.pd_kinds.specs.declared.rule.Rule.{Rule}
-use Rattle.pd_kinds.specs.declared.rule.Rule.TheVariants as r
 use Rattle.pd_kinds.specs.Rule.{same_rule}
-use Rattle.pd_kinds.specs.Graph.{Graph, block_at, pair, block_of, role_of, is_inner_pair, next, is_reached, nodes}
+use Rattle.pd_kinds.specs.Graph.{Graph, block_at, pair, block_of, role_of, is_inner_pair, next, is_reached, nodes, children, has_chain, is_deep, is_in_range, keys_below}
 use Rattle.pd_kinds.specs.Lawful.{IsLawful}
-use Rattle.pd_kinds.specs.Order.{children, has_chain, is_deep, is_in_range, keys_below}
 use Rattle.pd_kinds.specs.Stages.{roles_of, order_bad, is_out_of_range}
-use Rattle.pd_laws.proofs.PathLemmas.{passing_below, passes_below}
+use Rattle.pd_kinds.proofs.PathLemmas.{passing_below, passes_below}
+use Rattle.pd_kinds.specs.declared.rule.Rule.TheVariants as r
 use Rattle.pd_graph.specs.declared.audit.Audit.{Audit}
 use Rattle.pd_graph.specs.declared.notes.Note.{Note}
-use Rattle.pd_graph.specs.Roles.{has_bit}
+use Rattle.pd_graph.specs.Marks.{has_bit}
 use Rattle.pd_graph.specs.Audit.{roles_at, has_rule_at, note_at, KeepsButNotes, KeepsButRules}
-use Rattle.pd_graph.specs.Walk.{IsWalked}
-use Rattle.pd_graph.specs.Weight.{weigh_list}
+use Rattle.pd_graph.specs.Walk.{IsWalked, weigh_list}
 use Rattle.pd_graph.proofs.BitLemmas.{pair_block, counts_one, counts_none}
 use Rattle.pd_graph.proofs.AnyLemmas.{any_kept}
+use Rattle.pd_graph.proofs.Weights.{at_most_one}
 use Rattle.pd_settle.specs.Notes.{keys_note}
-use Rattle.pd_settle.specs.Good.{is_well, is_good_node, IsGoodNote}
-use Rattle.pd_settle.proofs.ExactLemmas.{exact_at, never_deep}
-use Rattle.pd_settle.proofs.ReachLemmas.{reached_within, any_child_node}
-use Rattle.pd_settle.specs.Ordering.{is_node, IsClean, IsOrdering, IsClosed, HasRoles, KeepsKnown}
-use Rattle.pd_settle.specs.Settled.{AreSettled, noted_rule, breaks, IsSettled}
+use Rattle.pd_settle.specs.Settled.{is_well, is_good_node, IsGoodNote, is_node, IsClean, IsOrdering, IsClosed, HasRoles, KeepsKnown, AreSettled, noted_rule, breaks, IsSettled}
+use Rattle.pd_settle.proofs.EntryLemmas.{exact_at, never_deep}
+use Rattle.pd_settle.proofs.NodeLemmas.{reached_within, any_child_node, order_bad_at}
 use Rattle.pd_settle.proofs.GoodLemmas.{good_is_shallow}
 use Rattle.pd_settle.proofs.ChainLemmas.{is_among, longer_chain, chain_by}
-use Rattle.pd_settle.proofs.NodeLemmas.{order_bad_at}
 
 -- a block that is no node of a tree has none of the rules
 module _ (graph : Graph) (image : List (List ℕ)) (lawful : IsLawful graph) where
@@ -245,10 +241,6 @@ weigh_split f a (suc m) n =
     let e' : a + suc m ≡ a + 1 + m = omega arith in
     rw (e, e') (omega arith)
 
-weight_of_test : (b : Bool) → cond b 1 0 ≤ 1
-weight_of_test true = omega arith
-weight_of_test false = omega arith
-
 -- each that passes passes another test, or is the block of a pair that passes the third
 pub blocks_from : (f h g : ℕ → Bool) (a n : ℕ) → ((c : ℕ) → f c ≡ true → (h c ≡ true) ⊎ ((role : ℕ) × (role < 16) × (g (pair c role) ≡ true)))
     → weigh_list f (λ c. 1) (range_with_len a n) ≤ weigh_list h (λ c. 1) (range_with_len a n) + weigh_list g (λ c. 1) (range_with_len (16 * a) (16 * n))
@@ -259,7 +251,7 @@ blocks_from f h g a (suc n) each =
     ap (λ (k : ℕ). weigh_list g (λ c. 1) (range_with_len (16 * a) k)) (let e : 16 * suc n ≡ 16 + 16 * n = omega arith in e)
     ∙ (weigh_split g (16 * a) 16 (16 * n)
     ∙ ap (λ (k : ℕ). weigh_list g (λ c. 1) (range_with_len (16 * a) 16) + weigh_list g (λ c. 1) (range_with_len k (16 * n))) (let e : 16 * a + 16 ≡ 16 * (a + 1) = omega arith in e)) in
-    let most = weight_of_test (f a) in
+    let most = at_most_one (f a) in
     elim (cases_Bool (f a)) [
       | inl e ↦ elim (each a e) [
         | inl same ↦ let kept = counts_one (h a) same in omega arith

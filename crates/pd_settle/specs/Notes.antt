@@ -2,8 +2,8 @@
 use Rattle.std.specs.Prelude.{◌≡◌, ℕ, ◌+◌, ◌-◌, ◌^◌, ◌≤◌, min, max, Bool, true, false, ◌==◌, ◌&&◌, not, nat_lt, List, [], ◌∷◌, length, Option, Some, None}
 use Rattle.std.specs.List.{list_any}
 use Rattle.std.specs.Option.{is_some}
+use Rattle.pd_kinds.specs.Graph.{has_chain, gathered}
 use Rattle.pd_graph.specs.declared.notes.Note.{Note}
-use Rattle.pd_kinds.specs.Order.{has_chain, gathered}
 
 -- the lesser, and the greater, of two numbers that may be missing
 abbrev pub lower : Option ℕ → Option ℕ → Option ℕ

@@ -5,10 +5,8 @@ ghost use Rattle.pd_kinds.specs.Objects.{CountsFault};
 ghost use Rattle.pd_kinds.specs.Graph.{pair};
 ghost use Rattle.pd_image.specs.Device.{IsAttached, OnlyReads};
 ghost use Rattle.pd_graph.specs.Notes.{size_of, note_in};
-ghost use Rattle.pd_settle.specs.Good.{AreSettleable};
-ghost use Rattle.pd_settle.specs.Ordering.{IsOrdering, IsClosed, KeepsKnown, steps};
-ghost use Rattle.pd_settle.specs.Settled.{is_fit, AreFit, AreSettledIn};
-ghost use Rattle.pd_settle.specs.Stepping.{bad_note};
+ghost use Rattle.pd_settle.specs.Settled.{AreSettleable, IsOrdering, IsClosed, KeepsKnown, steps, is_fit, AreFit, AreSettledIn};
+ghost use Rattle.pd_settle.specs.Looking.{bad_note};
 
 use crate::descending::descend;
 use crate::looking::keyless;

@@ -6,19 +6,14 @@
 #![tactic(auto)]
 
 mod descending;
-mod fetching;
 mod in_role;
-mod laws;
 mod looking;
 mod settling;
-mod stepping;
-mod summary;
 mod telling;
 
 pub use in_role::settle_role;
-pub use laws::{
-    below_is_the_number_of_entries, greatest_is_the_greatest_key, keys_are_those_of_entries,
-    least_is_the_least_key,
-};
 pub use settling::settle;
-pub use telling::{below, deep, greatest, least};
+pub use telling::{
+    below, below_is_the_number_of_entries, deep, greatest, greatest_is_the_greatest_key,
+    keys_are_those_of_entries, least, least_is_the_least_key,
+};

@@ -1,12 +1,11 @@
 //! A look at a node: its own keys, or what the notes of its children say.
 
-ghost use Rattle.std.specs.Prelude.{◌≡◌, ◌+◌, ◌<◌, true, length, nat_lt, slice_get, Some, None};
+ghost use Rattle.std.specs.Prelude.{◌≡◌, ◌<◌, true, length, nat_lt, slice_get, Some, None};
 ghost use Rattle.std.specs.List.{list_all};
 ghost use Rattle.pd_graph.specs.Notes.{size_of, note_in};
 ghost use Rattle.pd_settle.specs.Looking.{blocks_of_edges, is_low, IsFound, IsShallow};
-ghost use Rattle.pd_settle.specs.Notes.{keyless_note};
+ghost use Rattle.pd_settle.specs.Notes.{keyless_note, lower as lower_of, higher as higher_of, join as join_of, is_note_in_range};
 
-use crate::summary::{is_in_range, join};
 use pd_graph::{Format, Note, Notes, key_at};
 use pd_kinds::Block;
 
@@ -51,7 +50,8 @@ fn child_at<F: Format>(format: &F, role: u8, block: &Block, i: usize) -> u64
 fn block_at<F: Format>(notes: &Notes, format: &F, role: u8, block: &Block, i: usize) -> u64
     requires role { role < F.ROLES }
     requires child { i < length ((F.contents format.now).edges role block.now.0) }
-    requires within { list_all (λ c. nat_lt c (size_of notes.now)) (blocks_of_edges ((F.contents format.now).edges role block.now.0)) ≡ true }
+    requires within { list_all (λ c. nat_lt c (size_of notes.now)) (blocks_of_edges ((F.contents format.now).edges role block.now.0))
+        ≡ true }
     ensures child { slice_get (blocks_of_edges ((F.contents format.now).edges role block.now.0)) i ≡ Some result }
     ensures within { result < size_of notes.now }
 {
@@ -62,7 +62,8 @@ fn block_at<F: Format>(notes: &Notes, format: &F, role: u8, block: &Block, i: us
 fn sum_up<F: Format>(notes: &Notes, format: &F, role: u8, block: &Block) -> Note
     requires role { role < F.ROLES }
     requires keys { length ((F.contents format.now).keys role block.now.0) ≡ length ((F.contents format.now).edges role block.now.0) }
-    requires within { list_all (λ c. nat_lt c (size_of notes.now)) (blocks_of_edges ((F.contents format.now).edges role block.now.0)) ≡ true }
+    requires within { list_all (λ c. nat_lt c (size_of notes.now)) (blocks_of_edges ((F.contents format.now).edges role block.now.0))
+        ≡ true }
     requires low { list_all (λ c. is_low (note_in notes.now c)) (blocks_of_edges ((F.contents format.now).edges role block.now.0)) ≡ true }
     ensures { IsShallow (note_in notes.now) ((F.contents format.now).keys role block.now.0)
         (blocks_of_edges ((F.contents format.now).edges role block.now.0)) result }
@@ -121,4 +122,58 @@ pub(crate) fn look<F: Format>(
         return Seen::Stray;
     }
     Seen::Shallow(note)
+}
+
+// Notes of children put together.
+
+/// The lesser of two numbers that may be missing.
+fn lower(a: Option<u64>, b: Option<u64>) -> Option<u64>
+    ensures { result ≡ lower_of a b }
+{
+    match (a, b) {
+        (Some(a), Some(b)) => Some(a.min(b)),
+        (Some(a), None) => Some(a),
+        (None, b) => b,
+    }
+}
+
+/// The greater of two numbers that may be missing.
+fn higher(a: Option<u64>, b: Option<u64>) -> Option<u64>
+    ensures { result ≡ higher_of a b }
+{
+    match (a, b) {
+        (Some(a), Some(b)) => Some(a.max(b)),
+        (Some(a), None) => Some(a),
+        (None, b) => b,
+    }
+}
+
+/// The notes of two neighbours as one, which is no node's.
+pub(crate) fn join(a: Note, b: Note) -> Note
+    ensures { result ≡ join_of a b }
+{
+    Note {
+        least: lower(a.least, b.least),
+        greatest: higher(a.greatest, b.greatest),
+        below: a.below.saturating_add(b.below),
+        height: a.height.max(b.height),
+        in_range: true,
+    }
+}
+
+/// Whether the keys below a child are in its range, by its note.
+pub(crate) fn is_in_range(low: u64, high: Option<u64>, note: Note) -> bool
+    ensures { result ≡ is_note_in_range low high note }
+{
+    match (note.least, note.greatest) {
+        (Some(least), Some(greatest)) => {
+            low <= least
+                && match high {
+                    Some(high) => greatest < high,
+                    None => true,
+                }
+        }
+        (Some(least), None) => low <= least,
+        (None, _) => false,
+    }
 }

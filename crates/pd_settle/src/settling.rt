@@ -1,16 +1,16 @@
 //! The settling of a check: all nodes of trees, block after block.
 
-ghost use Rattle.std.specs.Prelude.{◌≡◌, ℕ, ◌+◌, ◌*◌, ◌<◌, ◌≤◌, ◌==◌, ◌||◌, ◌&&◌, nat_lt, true, false, length, is_ok, OnOk, IfSome, IfNone, if◌then◌else◌};
+ghost use Rattle.std.specs.Prelude.{◌≡◌, ℕ, ◌+◌, ◌*◌, ◌<◌, ◌≤◌, ◌==◌, ◌||◌, ◌&&◌, nat_lt, true, false};
+ghost use Rattle.std.specs.Prelude.{length, is_ok, OnOk, IfSome, IfNone, if◌then◌else◌};
 ghost use Rattle.pd_kinds.specs.declared.rule.Rule.{Rule};
 ghost use Rattle.pd_kinds.specs.Objects.{CountsFault};
 ghost use Rattle.pd_image.specs.Device.{IsAttached, OnlyReads};
-ghost use Rattle.pd_graph.specs.Roles.{has_bit};
+ghost use Rattle.pd_graph.specs.Marks.{has_bit};
 ghost use Rattle.pd_graph.specs.Notes.{no_note, size_of, note_in};
 ghost use Rattle.pd_graph.specs.Walk.{IsWalked, HasNotedLeaves};
 ghost use Rattle.pd_graph.specs.Audit.{blocks_of, has_walked, roles_at, has_rule_at, note_at, KeepsButNotes, KeepsButRules};
-ghost use Rattle.pd_settle.specs.Good.{AreSettleable};
-ghost use Rattle.pd_settle.specs.Ordering.{is_node, IsOrdering, IsClosed, KeepsKnown, HasRoles, steps};
-ghost use Rattle.pd_settle.specs.Settled.{inner_nodes, noted_rule, breaks, AreSettled, IsSettled, KeepsMet, KeepsWalk};
+ghost use Rattle.pd_settle.specs.Settled.{AreSettleable, is_node, IsOrdering, IsClosed, KeepsKnown, HasRoles, steps, inner_nodes};
+ghost use Rattle.pd_settle.specs.Settled.{noted_rule, breaks, AreSettled, IsSettled, KeepsMet, KeepsWalk};
 
 use crate::descending::descend;
 use crate::looking::keyless;
@@ -32,7 +32,8 @@ pub(crate) fn clear(notes: &mut Notes)
 /// Forgets the note of block b, unless it is that of a leaf.
 fn forget_inner_node(notes: &mut Notes, b: u64)
     requires { b < size_of notes.old }
-    ensures notes { (c : ℕ) → note_in notes.new c ≡ (if (c == b) && nat_lt 1 (note_in notes.old c).height then no_note else note_in notes.old c) }
+    ensures notes { (c : ℕ) → note_in notes.new c
+        ≡ (if (c == b) && nat_lt 1 (note_in notes.old c).height then no_note else note_in notes.old c) }
     ensures number { size_of notes.new ≡ size_of notes.old }
 {
     if 1 < notes.note(b).height {
@@ -54,8 +55,10 @@ fn forget_inner_nodes(notes: &mut Notes)
 /// The role in which block b is a node of a tree.
 fn tree_role<F: Format>(audit: &Audit, format: &F, b: u64) -> Option<u8>
     requires { b < blocks_of audit.now }
-    ensures some { IfSome result (λ role. (role < F.ROLES) × (has_bit (roles_at audit.now b) role ≡ true) × ((F.graph format.now).is_tree role ≡ true)) }
-    ensures none { IfNone result ((role : ℕ) → role < F.ROLES → has_bit (roles_at audit.now b) role ≡ true → (F.graph format.now).is_tree role ≡ false) }
+    ensures some { IfSome result (λ role. (role < F.ROLES)
+        × (has_bit (roles_at audit.now b) role ≡ true) × ((F.graph format.now).is_tree role ≡ true)) }
+    ensures none { IfNone result ((role : ℕ) → role < F.ROLES
+        → has_bit (roles_at audit.now b) role ≡ true → (F.graph format.now).is_tree role ≡ false) }
 {
     let roles = audit.roles(b);
     if roles == 0 {
@@ -84,9 +87,11 @@ fn visit<F: Format, D: Device>(
     ensures ended { OnOk result (IsClosed (note_at audit.new)) }
     ensures marks { KeepsButNotes audit.old audit.new }
     ensures knows { KeepsKnown (note_at audit.old) (note_at audit.new) }
-    ensures done { OnOk result ((role : ℕ) → role < F.ROLES → has_bit (roles_at audit.old b) role ≡ true → (F.graph format.now).is_tree role ≡ true
+    ensures done { OnOk result ((role : ℕ) → role < F.ROLES
+        → has_bit (roles_at audit.old b) role ≡ true → (F.graph format.now).is_tree role ≡ true
         → 1 ≤ (note_at audit.new b).height) }
-    ensures told { IfSome (D.state dev.old).held (λ image. AreSettleable (F.graph format.now) image (is_node (F.graph format.now) image) (λ c. true)
+    ensures told { IfSome (D.state dev.old).held
+        (λ image. AreSettleable (F.graph format.now) image (is_node (F.graph format.now) image) (λ c. true)
         → IsOrdering (F.graph format.now) image (is_node (F.graph format.now) image) (λ c. true) false (note_at audit.old)
         → HasRoles (F.graph format.now) image audit.old
         → IsOrdering (F.graph format.now) image (is_node (F.graph format.now) image) (λ c. true) false (note_at audit.new)) }

@@ -2,24 +2,19 @@
 use Rattle.std.proofs.Common.{◌≡◌, ℕ, ◌≤◌, Bool, List, [], length, map, Some, None, IfSome, sym, ap, ◌∙◌, subst, arith}
 use Rattle.std.proofs.lemmas.List.{length-map, nil_from_length}
 use Rattle.pd_kinds.specs.Crash.{HoldsSynced, LeavesOnly}
-use Rattle.pd_kinds.specs.Limits.{room_of}
-use Rattle.pd_kinds.specs.Moments.{after_sync}
-use Rattle.pd_kinds.specs.Objects.{DeviceState}
+use Rattle.pd_kinds.specs.Image.{room_of}
+use Rattle.pd_kinds.specs.Objects.{after_sync, DeviceState}
+use Rattle.pd_kinds.proofs.CrashLemmas.{Image}
+use Rattle.pd_answers.specs.Writebacks.{blocks_each}
+use Rattle.pd_answers.specs.Shrinks.{Move, copy_of_move, data_after, sources, ShrinkGround, lack_of, moves_of, pool_before}
 use Rattle.pd_image.proofs.CrashLemmas.{at_some, synced_now}
-use Rattle.pd_answers.specs.CachedView.{blocks_each}
-use Rattle.pd_answers.specs.MovedPool.{Move, copy_of_move, data_after, sources}
-use Rattle.pd_answers.specs.Shrinks.{ShrinkGround, lack_of, moves_of, pool_before}
 use Rattle.pd_restoring.specs.Made.{Content, Ending, IsMade, short}
 use Rattle.pd_writeback.proofs.OverlaidLemmas.{overlaid_none}
 use Rattle.pd_shrink.specs.declared.plan.Shrink.{Shrink}
 use Rattle.pd_shrink.specs.Kept.{kept_content, kept_pool, saved_content}
 use Rattle.pd_shrink.specs.Moves.{AreApart, IsLeftKept, move_in, moves_in}
 use Rattle.pd_shrink.specs.Planned.{IsPlanOf, content_after, saved_after}
-use Rattle.pd_shrink.proofs.KeptLemmas.{by_kept}
-use Rattle.pd_shrink.proofs.RoomLemmas.{all_moved}
-
-abbrev Image : Type 0
-Image = List (List ℕ)
+use Rattle.pd_shrink.proofs.RoomLemmas.{by_kept, all_moved}
 
 module _ {is_shared : Bool} (basis : ShrinkGround is_shared) (shrink : Shrink) (of : IsPlanOf basis shrink) where
   abbrev k : ℕ

@@ -1,16 +1,31 @@
 -- How free blocks that are gathered join.
-use Rattle.std.proofs.Common.{◌≡◌, ◌∙◌, ℕ, zero, suc, ◌+◌, ◌-◌, ◌<◌, ◌≤◌, Option, Bool, true, false, cond, List, [], ◌∷◌, ◌++◌, length, take, ap, sym, refl, subst, arith, append_assoc, append-nil, length-append}
+use Rattle.std.proofs.Common.{◌≡◌, ◌∙◌, ℕ, zero, suc, ◌+◌, ◌-◌, ◌<◌, ◌≤◌, Option, Bool, true, false, cond, List, [], ◌∷◌, ◌++◌, length, take, ap, sym, refl, subst, arith, append_assoc, append-nil, length-append, not, ◌&&◌, nat_eq, eq-eqb}
 use Rattle.std.specs.Prelude.{◌==◌, filter}
 use Rattle.std.specs.List.{range_with_len}
 use Rattle.std.proofs.lemmas.List.{length-take, take-append-le}
 use Rattle.std.proofs.lemmas.List.Elements.{filter-append}
-use Rattle.pd_smap.specs.OverflowLeft.{stored_by}
+use Rattle.std.specs.Str.{bytes_eq}
+use Rattle.std.proofs.lemmas.Bool.{or_parts, not-false}
+use Rattle.std.proofs.lemmas.Slice.Eq.{bytes_eq-Decides}
+use Rattle.pd_kinds.proofs.NumberLemmas.{range_split, first_not}
+use Rattle.pd_kinds.specs.declared.kind.Kind.TheVariants.{Thin}
+use Rattle.pd_kinds.specs.Bitmap.{bitmaps_for}
+use Rattle.pd_kinds.specs.Graph.{block_at, data_count}
+use Rattle.pd_kinds.specs.Node.{Entry}
+use Rattle.pd_kinds.specs.Rule.{same_rule}
+use Rattle.pd_kinds.specs.Stages.{IsClean, thin_checked}
+use Rattle.pd_kinds.specs.ThinFormat.{thin_graph, thin_fields}
+use Rattle.pd_kinds.specs.Trees.{entries_below, keys_of, stored_data_in}
+use Rattle.pd_kinds.specs.Whole.{data_index_entries, thin_whole, whole_bad}
+use Rattle.pd_kinds.proofs.KindLemmas.{data_blocks_are}
+use Rattle.pd_kinds.specs.declared.rule.Rule.TheVariants as r
+use Rattle.pd_answers.specs.Shrinks.{free_blocks}
+use Rattle.pd_smap.specs.Steps.{stored_by}
 use Rattle.pd_smap.proofs.MapLemmas.{few_bits, many_bits}
-use Rattle.pd_smap.proofs.StepLemmas.{range_split}
-use Rattle.pd_changed.specs.Moving.{AreBelow, Ascend}
+use Rattle.pd_smap.specs.Overflow.{index_of, overflow_of}
+use Rattle.pd_laws_changed.specs.KnownPool.{AreBelow, Ascend}
 use Rattle.pd_shrink.specs.declared.free.FreeBlocks.{FreeBlocks}
-use Rattle.pd_shrink.specs.Gathered.{Gathers, HoldsFirstFree, AscendWithin, numbers_where}
-use Rattle.pd_shrink.specs.Unused.{is_zero}
+use Rattle.pd_shrink.specs.Gathered.{Gathers, HoldsFirstFree, AscendWithin, numbers_where, is_zero, is_unused, unused_below}
 
 -- some blocks, and then more
 pub chosen_split : (is : ℕ → Bool) (low m n : ℕ) → numbers_where is low (m + n) ≡ numbers_where is low m ++ numbers_where is (low + m) n
@@ -130,3 +145,35 @@ take_ascend (suc n) low (d ∷ ds) ascend = (ascend.0, take_ascend n (d + 1) ds 
 
 pub lie_first : (n low high : ℕ) (ds : List ℕ) → AscendWithin low high ds → AscendWithin low high (take n ds)
 lie_first n low high ds lie = record { below = take_below n high ds lie.below; ascend = take_ascend n low ds lie.ascend }
+
+-- The stored counts of data blocks in a pool without faults.
+
+-- the index has an entry for each bitmap, by the rule Index
+pub index_keys : (image : List (List ℕ)) → IsClean Thin image → (thin_fields (block_at image 0)).data_map.bitmap_root < (thin_graph (block_at image 0)).nr
+    → keys_of (data_index_entries (thin_graph (block_at image 0)) image) ≡ range_with_len 0 (bitmaps_for (thin_fields (block_at image 0)).data_map.blocks)
+unfolding thin_checked whole_bad thin_whole
+index_keys image clean within =
+    let root = (thin_fields (block_at image 0)).data_map.bitmap_root in
+    let graph = thin_graph (block_at image 0) in
+    let keys = keys_of (data_index_entries graph image) in
+    let wanted = range_with_len 0 (bitmaps_for graph.data_blocks) in
+    let none = (or_parts _ _ (clean.whole root r.Index within)).0 in
+    let here : (nat_eq root root && same_rule r.Index r.Index) ≡ true = rw (eq-eqb root root refl) refl in
+    let fails = first_not (not (bytes_eq keys wanted)) (nat_eq root root && same_rule r.Index r.Index) here none in
+    (bytes_eq-Decides keys wanted).0 (not-false (bytes_eq keys wanted) fails)
+    ∙ ap (λ (n : ℕ). range_with_len 0 (bitmaps_for n)) (data_blocks_are (block_at image 0))
+
+-- the blocks whose stored count is 0 are those without a reference, where the trees that are read hold the format's entries
+pub free_same : (image : List (List ℕ)) (end : ℕ) → IsClean Thin image → end ≤ (thin_fields (block_at image 0)).data_map.blocks
+    → ((d : ℕ) (overflow : List Entry) → stored_data_in image (index_of image (thin_fields (block_at image 0)).data_map.bitmap_root) overflow d
+    ≡ stored_data_in image (data_index_entries (thin_graph (block_at image 0)) image) overflow d)
+    → overflow_of image (thin_fields (block_at image 0)).data_map.overflow_root ≡ entries_below (thin_graph (block_at image 0)) image 4 7 (thin_fields (block_at image 0)).data_map.overflow_root
+    → unused_below image (thin_fields (block_at image 0)).data_map end ≡ free_blocks image end
+unfolding thin_checked unused_below free_blocks numbers_where
+free_same image end clean within index overflow =
+    let graph = thin_graph (block_at image 0) in
+    let map = (thin_fields (block_at image 0)).data_map in
+    chosen_same (is_unused image map) (λ d. data_count graph image d == 0) 0 end (λ d from below.
+    ap is_zero (index d (overflow_of image map.overflow_root)
+    ∙ ap (λ (entries : List Entry). stored_data_in image (data_index_entries graph image) entries d) overflow
+    ∙ clean.data_counts d (omega (arith, below, within, data_blocks_are (block_at image 0)))))

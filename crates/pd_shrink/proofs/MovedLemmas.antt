@@ -9,16 +9,13 @@ use Rattle.std.proofs.lemmas.List.Elements.{All-from_recursion}
 use Rattle.std.proofs.lemmas.List.Folds.{list_any_at}
 use Rattle.std.proofs.lemmas.Option.{same_Some, slice_get-get_or, unwrap_or-slice_get}
 use Rattle.pd_kinds.specs.Graph.{block_at}
-use Rattle.pd_answers.specs.CachedView.{CachedBlock, fast_place, overlaid, stands_for}
-use Rattle.pd_answers.specs.MovedPool.{copy_of_move, data_after}
+use Rattle.pd_kinds.proofs.CrashLemmas.{Image}
+use Rattle.pd_answers.specs.Writebacks.{CachedBlock, fast_place, overlaid, stands_for}
+use Rattle.pd_answers.specs.Shrinks.{copy_of_move, data_after}
 use Rattle.pd_writeback.specs.Copied.{IsCopied}
-use Rattle.pd_writeback.proofs.CopyLemmas.{copied_more, copied_none}
-use Rattle.pd_writeback.proofs.OverlaidLemmas.{between, one_more_overlaid, one_stands, overlaid_at, overlaid_length, overlaid_none, stands_some}
+use Rattle.pd_writeback.proofs.OverlaidLemmas.{copied_more, copied_none, between, one_more_overlaid, one_stands, overlaid_at, overlaid_length, overlaid_none, stands_some}
 use Rattle.pd_shrink.specs.Moves.{AreApart, AreOnce, IsAcross, move_in, moves_in}
 use Rattle.pd_shrink.specs.declared.moves.MovedBlock.{MovedBlock}
-
-abbrev Image : Type 0
-Image = List (List ℕ)
 
 abbrev pub copy_in : MovedBlock → CachedBlock
 copy_in x = copy_of_move (move_in x)

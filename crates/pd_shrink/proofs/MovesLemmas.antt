@@ -1,23 +1,93 @@
 -- The pool whose data blocks were moved is lawful, and its runs and moves fit.
-use Rattle.std.proofs.Common.{◌≡◌, inl, inr, ℕ, zero, suc, ◌+◌, ◌^◌, ◌≤◌, Bool, true, ◌&&◌, nat_eq, nat_le, List, [], ◌∷◌, ◌++◌, length, map, filter, take, drop, refl, ap, ap₂, sym, subst, ◌∙◌, arith, le_refl, le_trans}
+use Rattle.std.proofs.Common.{◌≡◌, ℕ, suc, ◌+◌, ◌<◌, ◌≤◌, get_or, List, [], ◌∷◌, ◌++◌, length, map, take, drop, drop-cons, add-one, ap, sym, subst, ◌∙◌, arith, append_assoc, length-drop, inl, inr, zero, ◌^◌, Bool, true, ◌&&◌, nat_eq, nat_le, filter, refl, ap₂, le_refl, le_trans}
 use Rattle.std.specs.List.{AllByRecursion, list_any, range_with_len}
+use Rattle.std.specs.Prelude.{sum_by}
+use Rattle.std.proofs.lemmas.List.{drop-append-le, length-append, map-append, nil_from_length, take-append-le, take_all, take-append-drop}
+use Rattle.std.proofs.lemmas.List.Sums.{sum_by-append, sum_by-cons}
 use Rattle.std.proofs.lemmas.Bool.{and_parts, cases_Bool, leb-true}
-use Rattle.std.proofs.lemmas.List.{nil_from_length, take-append-drop}
 use Rattle.pd_kinds.specs.Meaning.{Mapping, ThinDevice, ThinPool}
-use Rattle.pd_answers.specs.MovedPool.{Move, moved_device, moved_mapping, moved_pool, moves_to, sources}
-use Rattle.pd_laws.proofs.AllLemmas.{all_append}
-use Rattle.pd_changed.specs.Moving.{AreBelow, Ascend, IsMoving}
-use Rattle.pd_changed.proofs.FreeBlocks.{kept_ascend}
-use Rattle.pd_spells.specs.Lawful.{AreDevices, AreMappings, IsLawfulPool}
-use Rattle.pd_spells.specs.ThinNeed.{mapped_data}
-use Rattle.pd_spells.specs.ThinText.{device_of_part, mappings_from}
-use Rattle.pd_thin_meaning.specs.declared.joined.Run.{Run}
+use Rattle.pd_kinds.proofs.ListLemmas.{all_append}
+use Rattle.pd_grammar.specs.Lawful.{AreDevices, AreMappings, IsLawfulPool}
+use Rattle.pd_grammar.specs.Need.{mapped_data}
+use Rattle.pd_grammar.specs.ThinText.{device_of_part, mappings_from}
+use Rattle.pd_answers.specs.Shrinks.{Move, moved_device, moved_mapping, moved_pool, moves_to, sources}
+use Rattle.pd_meaning_thin.specs.declared.joined.Run.{Run}
+use Rattle.pd_restore.proofs.SavedNeedLemmas.{after_run}
+use Rattle.pd_salvage.specs.Gather.{mappings_of_runs}
 use Rattle.pd_salvage.specs.declared.saved.SavedDevice.{SavedDevice}
 use Rattle.pd_salvage.specs.declared.saved.SavedHead.{SavedHead}
-use Rattle.pd_salvage.specs.Gather.{mappings_of_runs}
 use Rattle.pd_salvage.specs.Saved.{IsJoined, IsSavedPool, SavedPool, part_of, parts_of, pool_of, runs_of_devices}
-use Rattle.pd_shrink.specs.Moving.{AreJoined, AreMoved, AreMovesFrom, AreMovesOf, FitsRun, bare_device, head_to, moved_mappings, runs_of_device, split_mappings, split_runs}
-use Rattle.pd_shrink.proofs.PartLemmas.{parts_rest}
+use Rattle.pd_laws_changed.specs.KnownPool.{AreBelow, Ascend, IsMoving}
+use Rattle.pd_laws_changed.proofs.FreeBlocks.{kept_ascend}
+use Rattle.pd_shrink.specs.Moves.{AddsPart, AreJoined, FitsRun, moved_mappings, split_mappings, split_runs, AreMoved, AreMovesFrom, AreMovesOf, bare_device, head_to, runs_of_device}
+use Rattle.pd_shrink.proofs.MovingLemmas.{left_fit}
+
+-- Parts of a pool with their runs, whose data blocks are moved one part after another.
+
+-- what a loop over parts keeps: those that were moved and those that are left are all
+pub record MovesParts {T K : Type 0} (count : T → ℕ) (says : T → K) (moves : List Move) (all : List T) (all_runs : List Run) (parts : List T) (runs : List Run) (made : List T) (given : List Run) : Type 0 where
+  pub same : map says made ++ map says parts ≡ map says all
+  pub moved : split_mappings count made given ++ moved_mappings moves (split_mappings count parts runs) ≡ moved_mappings moves (split_mappings count all all_runs)
+  pub joined : AllByRecursion AreJoined (split_runs count made given)
+  pub number : sum_by count made ≡ length given
+  pub left : sum_by count parts ≡ length runs
+  pub fits : AllByRecursion FitsRun runs
+
+module _ {T K : Type 0} (count : T → ℕ) (says : T → K) where
+  -- the runs behind those of the first part are those of the others
+  pub parts_rest : (x : T) (xs : List T) (runs : List Run) → sum_by count (x ∷ xs) ≡ length runs → sum_by count xs ≡ length (drop (count x) runs)
+  parts_rest x xs runs number = omega (arith, number, sum_by-cons count x xs, length-drop (count x) runs)
+
+  -- the runs by parts, with one part more
+  split_more : (made : List T) (y : T) (given more : List Run) → sum_by count made ≡ length given → count y ≡ length more
+      → split_runs count (made ++ y ∷ []) (given ++ more) ≡ split_runs count made given ++ more ∷ []
+  split_more [] y given more number size =
+      rw (nil_from_length given (sym number)) (ap (λ (runs : List Run). runs ∷ []) (take_all (count y) more (let all : length more ≤ count y = omega arith in all)))
+  split_more (x ∷ made) y given more number size =
+      let whole = sum_by-cons count x made in
+      let first : count x ≤ length given = omega arith in
+      rw (take-append-le (count x) given more first, drop-append-le (count x) given more first)
+      (ap (λ (parts : List (List Run)). take (count x) given ∷ parts) (split_more made y (drop (count x) given) more (parts_rest x made given number) size))
+
+module _ {T K : Type 0} (count : T → ℕ) (says : T → K) (moves : List Move) (all : List T) (all_runs : List Run) where
+  -- one part more
+  module _ (x : T) (xs : List T) (runs : List Run) (made made' : List T) (given given' : List Run) (is : MovesParts count says moves all all_runs (x ∷ xs) runs made given)
+      (adds : AddsPart count says moves x (take (count x) runs) made given made' given') where
+    abbrev rest : List (List Mapping)
+    rest = moved_mappings moves (split_mappings count xs (drop (count x) runs))
+
+    parts_are : split_runs count made' given' ≡ split_runs count made given ++ adds.given ∷ []
+    parts_are = rw (adds.parts_are, adds.runs_are) (split_more count says made adds.made given adds.given is.number adds.number)
+
+    numbers : length (given ++ adds.given) ≡ length given + length adds.given → sum_by count made + sum_by count (adds.made ∷ []) ≡ length (given ++ adds.given)
+    numbers both = let before = is.number in let one = adds.number in let alone = sum_by-cons count adds.made [] in omega arith
+
+    moves_part : MovesParts count says moves all all_runs xs (drop (count x) runs) made' given'
+    moves_part = record {
+      same =
+          ap (λ (ys : List T). map says ys ++ map says xs) adds.parts_are
+          ∙ (ap (λ (ks : List K). ks ++ map says xs) (map-append says made (adds.made ∷ []))
+          ∙ (append_assoc (map says made) (says adds.made ∷ []) (map says xs)
+          ∙ (ap (λ (k : K). map says made ++ k ∷ map says xs) adds.same ∙ is.same)));
+      moved =
+          ap (λ (parts : List (List Run)). map mappings_of_runs parts ++ rest) parts_are
+          ∙ (ap (λ (parts : List (List Mapping)). parts ++ rest) (map-append mappings_of_runs (split_runs count made given) (adds.given ∷ []))
+          ∙ (append_assoc (split_mappings count made given) (mappings_of_runs adds.given ∷ []) rest
+          ∙ (ap (λ (ms : List Mapping). split_mappings count made given ++ ms ∷ rest) adds.moved ∙ is.moved)));
+      joined = subst (AllByRecursion AreJoined) (sym parts_are) (all_append AreJoined (split_runs count made given) (adds.given ∷ []) is.joined (adds.joined, tt));
+      number = rw (adds.parts_are, adds.runs_are) (sum_by-append count made (adds.made ∷ []) ∙ numbers (length-append given adds.given));
+      left = parts_rest count says x xs runs is.left;
+      fits = left_fit (count x) runs is.fits;
+    }
+
+  pub parts_next : (i : ℕ) (d : T) (runs mine later : List Run) (made made' : List T) (given given' : List Run) → i < length all
+      → MovesParts count says moves all all_runs (drop i all) runs made given → mine ≡ take (count (get_or all i d)) runs → later ≡ drop (count (get_or all i d)) runs
+      → AddsPart count says moves (get_or all i d) mine made given made' given' → MovesParts count says moves all all_runs (drop (i + 1) all) later made' given'
+  parts_next i d runs mine later made made' given given' within is mine_is later_is adds =
+      let there = drop-cons all i d within in
+      let now = rw there at is in
+      let added = rw mine_is at adds in
+      rw (later_is, add-one i) (moves_part (get_or all i d) (drop (suc i) all) runs made made' given given' now added)
 
 -- what is kept of a range ascends from a number that all of it have passed
 kept_past : (test : ℕ → Bool) (least a n : ℕ) → ((d : ℕ) → test d ≡ true → least ≤ d) → Ascend least (filter test (range_with_len a n))
@@ -53,10 +123,6 @@ run_fits blocks least v d t (suc (suc n)) rest are some =
     let virtual = later.0 in
     let last = later.1 in
     (omega arith, omega arith)
-
-after_run : (blocks least v d t n : ℕ) (rest : List Mapping) → AreMappings blocks least (mappings_from v d t n ++ rest) → (next : ℕ) × AreMappings blocks next rest
-after_run blocks least v d t zero rest are = (least, are)
-after_run blocks least v d t (suc n) rest are = after_run blocks (v + 1) (suc v) (suc d) t n rest are.1
 
 pub part_fits : (blocks least : ℕ) (runs : List Run) → blocks ≤ 2 ^ 40 → AreMappings blocks least (mappings_of_runs runs) → AllByRecursion FitsRun runs
 part_fits blocks least [] few are = tt

@@ -1,19 +1,149 @@
 -- The runs of a part whose data blocks were moved.
-use Rattle.std.proofs.Common.{◌≡◌, ℕ, zero, suc, ◌+◌, ◌-◌, ◌<◌, ◌≤◌, get_or, List, [], ◌∷◌, ◌++◌, length, map, take, drop, refl, ap, sym, subst, ◌∙◌, arith, append_assoc}
+use Rattle.std.proofs.Common.{◌≡◌, ℕ, zero, suc, ◌+◌, ◌<◌, ◌≤◌, get_or, List, [], ◌∷◌, length, take, drop, drop-cons, add-one, ap, sym, ◌∙◌, arith, length-drop, ◌++◌, refl, append_assoc, inl, inr, Ok, Err, ◌-◌, map, subst}
+use Rattle.std.proofs.lemmas.List.{drop_all, take_all, append-nil, map-append, nil_from_length, take-append-drop, take_more}
+use Rattle.std.specs.List.Sorted.{IsBinarySearchResult, IsNonDecreasingBy}
+use Rattle.std.specs.Ordering.{nat_cmp, ordering_index}
+use Rattle.std.proofs.lemmas.Bool.{cases_lt, eq-eqb, ne_eqb}
+use Rattle.std.proofs.lemmas.Bool.Decides.{nat_tests}
+use Rattle.std.proofs.lemmas.Cmp.{ranked}
+use Rattle.std.proofs.lemmas.List.Sorted.{IsNonDecreasingBy-from_default}
 use Rattle.std.specs.List.{AllByRecursion}
-use Rattle.std.proofs.lemmas.List.{append-nil, map-append, take-append-drop, take_more}
 use Rattle.pd_kinds.specs.Meaning.{Mapping}
-use Rattle.pd_answers.specs.MovedPool.{Move, moved_mapping, moved_to}
-use Rattle.pd_spells.specs.ThinText.{mappings_from, mappings_of}
-use Rattle.pd_thin_meaning.specs.declared.joined.Run.{Run}
-use Rattle.pd_thin_meaning.specs.Joined.{spelled}
-use Rattle.pd_salvage.specs.Gather.{HasRuns, mappings_of_runs, IsJoining, Takes}
-use Rattle.pd_salvage.proofs.JoiningLemmas.{longer_run, runs_more}
+use Rattle.pd_kinds.proofs.KindsListLemmas.{all_last}
+use Rattle.pd_grammar.specs.ThinText.{mappings_from, mappings_of}
+use Rattle.pd_answers.specs.Shrinks.{Move, moves_to, moved_to, moved_mapping}
+use Rattle.pd_meaning_thin.specs.declared.joined.Run.{Run}
+use Rattle.pd_meaning_thin.specs.Runs.{spelled}
+use Rattle.pd_meaning_thin.proofs.AppendLemmas.{both_runs}
+use Rattle.pd_meaning_thin.specs.Packed.{no_run}
+use Rattle.pd_salvage.specs.Gather.{mappings_of_runs, IsJoining, Takes}
+use Rattle.pd_salvage.proofs.GatherLemmas.{runs_more}
 use Rattle.pd_salvage.specs.declared.joined.Joining.{Joining}
-use Rattle.pd_shrink.specs.Moving.{AreMovesFrom, FitsRun}
-use Rattle.pd_shrink.proofs.MetLemmas.{met_is, met_within, none_taken}
-use Rattle.pd_shrink.proofs.PlaceLemmas.{below_stays}
-use Rattle.pd_laid.proofs.GatherLemmas.{all_last}
+use Rattle.pd_shrink.specs.Moves.{move_in, moves_in, AreMovesFrom, FitsRun}
+use Rattle.pd_shrink.specs.declared.moves.MovedBlock.{MovedBlock}
+use Rattle.pd_shrink.proofs.MovedLemmas.{no_move}
+
+-- What is left of a list, where its first item is met and where nothing is.
+
+module _ {T : Type 0} (xs : List T) (i : ℕ) where
+  module _ (x : T) (rest : List T) (met : drop i xs ≡ x ∷ rest) where
+    pub met_within : i < length xs
+    met_within = let n : length (drop i xs) ≡ suc (length rest) = ap length met in omega (arith, n, length-drop i xs)
+
+    pub met_is : (d : T) → get_or xs i d ≡ x
+    met_is d = ap (λ (ys : List T). get_or ys zero d) (sym (drop-cons xs i d met_within) ∙ met)
+
+    pub met_behind : rest ≡ drop (i + 1) xs
+    met_behind = rw (add-one i) (ap (drop (suc zero)) (sym met ∙ drop-cons xs i x met_within))
+
+  module _ (none : drop i xs ≡ []) where
+    none_within : length xs ≤ i
+    none_within = let n : length (drop i xs) ≡ 0 = ap length none in omega (arith, n, length-drop i xs)
+
+    pub none_taken : take i xs ≡ take (i + 1) xs
+    none_taken = let all = none_within in take_all i xs all ∙ sym (take_all (i + 1) xs (omega arith))
+
+    pub none_behind : [] ≡ drop (i + 1) xs
+    none_behind = let all = none_within in sym (drop_all (i + 1) xs (omega arith))
+
+-- Sources and free blocks, pair by pair.
+
+-- one pair more, where these are left
+pub pair_more : (sources free : List ℕ) (i : ℕ) (old new : List MovedBlock) → i < length sources → i < length free
+    → new ≡ old ++ record { source = get_or sources i 0; target = get_or free i 0 } ∷ [] → moves_in old ++ moves_to (drop i sources) (drop i free) ≡ moves_to sources free
+    → moves_in new ++ moves_to (drop (i + 1) sources) (drop (i + 1) free) ≡ moves_to sources free
+pair_more sources free i old new in_sources in_free new_is before =
+    let x : MovedBlock = record { source = get_or sources i 0; target = get_or free i 0 } in
+    ap (λ (ms : List MovedBlock). moves_in ms ++ moves_to (drop (i + 1) sources) (drop (i + 1) free)) new_is
+    ∙ (ap (λ (ms : List Move). ms ++ moves_to (drop (i + 1) sources) (drop (i + 1) free)) (map-append move_in old (x ∷ []))
+    ∙ (append_assoc (moves_in old) (moves_in (x ∷ [])) (moves_to (drop (i + 1) sources) (drop (i + 1) free))
+    ∙ (ap (λ (ms : List Move). moves_in old ++ ms) next ∙ before)))
+  where
+    next : moves_in (record { source = get_or sources i 0; target = get_or free i 0 } ∷ []) ++ moves_to (drop (i + 1) sources) (drop (i + 1) free) ≡ moves_to (drop i sources) (drop i free)
+    next = rw (add-one, drop-cons sources i 0, drop-cons free i 0) refl
+
+pub pair_all : (sources free : List ℕ) (i : ℕ) (moves : List MovedBlock) → length sources ≤ i → moves_in moves ++ moves_to (drop i sources) (drop i free) ≡ moves_to sources free
+    → moves_in moves ≡ moves_to sources free
+pair_all sources free i moves all before =
+    let none : drop i sources ≡ [] = nil_from_length (drop i sources) (let rest = length-drop i sources in omega arith) in
+    sym (append-nil (moves_in moves)) ∙ (ap (λ (ds : List ℕ). moves_in moves ++ moves_to ds (drop i free)) (sym none) ∙ before)
+
+-- Where a data block is after moves whose sources ascend.
+
+-- the sources ascend from any lower number on, too
+pub from_lower : (top low least : ℕ) (moves : List Move) → low ≤ least → AreMovesFrom top least moves → AreMovesFrom top low moves
+from_lower top low least [] below are = tt
+from_lower top low least (x ∷ moves) below are =
+    let from = are.0.from in
+    (record { from = omega arith; below = are.0.below }, are.1)
+
+-- a data block below all sources stays
+pub below_stays : (top least d : ℕ) (moves : List Move) → AreMovesFrom top least moves → d < least → moved_to moves d ≡ d
+unfolding moved_to
+below_stays top least d [] are below = refl
+below_stays top least d (x ∷ moves) are below =
+    let from = are.0.from in
+    rw (ne_eqb x.source d (λ same. omega arith)) (below_stays top (x.source + 1) d moves are.1 (omega arith))
+
+abbrev source_at : List MovedBlock → ℕ → ℕ
+source_at moves i = (get_or moves i no_move).source
+
+source_from : (top least : ℕ) (moves : List MovedBlock) (i : ℕ) → AreMovesFrom top least (moves_in moves) → i < length moves → least ≤ source_at moves i
+source_from top least [] i are within = absurd (omega arith)
+source_from top least (x ∷ moves) zero are within = are.0.from
+source_from top least (x ∷ moves) (suc i) are within =
+    let from = are.0.from in
+    let later = source_from top (x.source + 1) moves i are.1 (omega arith) in
+    omega arith
+
+sources_rise : (top least : ℕ) (moves : List MovedBlock) (i j : ℕ) → AreMovesFrom top least (moves_in moves) → i ≤ j → j < length moves → source_at moves i ≤ source_at moves j
+sources_rise top least [] i j are le within = absurd (omega arith)
+sources_rise top least (x ∷ moves) zero zero are le within = omega arith
+sources_rise top least (x ∷ moves) zero (suc j) are le within =
+    let later = source_from top (x.source + 1) moves j are.1 (omega arith) in omega arith
+sources_rise top least (x ∷ moves) (suc i) zero are le within = absurd (omega arith)
+sources_rise top least (x ∷ moves) (suc i) (suc j) are le within = sources_rise top (x.source + 1) moves i j are.1 (omega arith) (omega arith)
+
+-- where a data block is that is a source, and that its place is below the top
+pub place_at : (top least d : ℕ) (moves : List MovedBlock) (i : ℕ) → AreMovesFrom top least (moves_in moves) → i < length moves → source_at moves i ≡ d
+    → (get_or moves i no_move).target ≡ moved_to (moves_in moves) d
+unfolding moved_to
+place_at top least d [] i are within is = absurd (omega arith)
+place_at top least d (x ∷ moves) zero are within is = rw (eq-eqb x.source d is) refl
+place_at top least d (x ∷ moves) (suc i) are within is =
+    let later = source_from top (x.source + 1) moves i are.1 (omega arith) in
+    rw (ne_eqb x.source d (λ same. omega arith)) (place_at top (x.source + 1) d moves i are.1 (omega arith) is)
+
+pub target_below : (top least : ℕ) (moves : List MovedBlock) (i : ℕ) → AreMovesFrom top least (moves_in moves) → i < length moves → (get_or moves i no_move).target < top
+target_below top least [] i are within = absurd (omega arith)
+target_below top least (x ∷ moves) zero are within = are.0.below
+target_below top least (x ∷ moves) (suc i) are within = target_below top (x.source + 1) moves i are.1 (omega arith)
+
+-- one that is no source stays
+no_source : (d : ℕ) (moves : List MovedBlock) → ((i : ℕ) → i < length moves → source_at moves i ≡ d → ⊥) → d ≡ moved_to (moves_in moves) d
+unfolding moved_to
+no_source d [] apart = refl
+no_source d (x ∷ moves) apart =
+    rw (ne_eqb x.source d (apart 0 (omega arith))) (no_source d moves (λ i within. apart (suc i) (omega arith)))
+
+module _ (top least d : ℕ) (moves : List MovedBlock) (are : AreMovesFrom top least (moves_in moves)) where
+  -- the comparisons rise along the moves, as a binary search asks
+  comparisons_rise : IsNonDecreasingBy (λ (x : MovedBlock). ordering_index (nat_cmp x.source d)) moves
+  comparisons_rise = IsNonDecreasingBy-from_default (λ (x : MovedBlock). ordering_index (nat_cmp x.source d)) moves no_move (λ i j le within.
+      let rise : source_at moves i ≤ source_at moves j = sources_rise top least moves i j are le within in
+      grind (arith, nat_tests))
+
+  -- a binary search ends at the source, or there is none
+  pub found_at : (at : ℕ) → IsBinarySearchResult (λ (x : MovedBlock). nat_cmp x.source d) moves (Ok at) → source_at moves at ≡ d
+  found_at at equal = ranked _ d _ (sym (equal no_move))
+
+  pub found_none : (at : ℕ) → IsBinarySearchResult (λ (x : MovedBlock). nat_cmp x.source d) moves (Err at) → d ≡ moved_to (moves_in moves) d
+  found_none at parted =
+      let sides = parted comparisons_rise in
+      no_source d moves (λ i within same. elim (cases_lt i at) [
+        | inl before ↦ let less : source_at moves i < d = ranked _ d _ (sym (sides.0 i no_move (omega arith) before)) in omega arith
+        | inr behind ↦ let more : d < source_at moves i = ranked _ d _ (sym (sides.1 i no_move behind within)) in omega arith
+      ])
 
 -- the first mappings of a run, where they were moved
 abbrev pub moved_first : List Move → Run → ℕ → List Mapping
@@ -34,7 +164,7 @@ moved_more : (moves : List Move) (v d t i place : ℕ) → place ≡ moved_to mo
 moved_more moves v d t i place is =
     rw is
     (sym (map-append (moved_mapping moves) (mappings_from v d t i) (mappings_from (v + i) (d + i) t 1))
-    ∙ ap (map (moved_mapping moves)) (longer_run v d t i 1))
+    ∙ ap (map (moved_mapping moves)) (both_runs v d t i 1))
 
 module _ (moves : List Move) (r : Run) (old now new : List Run) (first joining joining' : Joining) where
   -- the part of a run that stays is taken, or there is none
@@ -56,10 +186,6 @@ module _ (moves : List Move) (r : Run) (old now new : List Run) (first joining j
       (append_assoc ms (moved_first moves r i) (record { virtual_block = r.virt + i; data_block = place; time = r.time } ∷ [])
       ∙ ap (λ (xs : List Mapping). ms ++ xs) (moved_more moves r.virt r.target r.time i place is))
       (more before (ms ++ moved_first moves r i) (takes before ms joins))
-
--- where no run is
-abbrev pub no_run : Run
-no_run = record { virt = 0; target = 0; length = 0; time = 0 }
 
 -- a run more is taken of a device's
 takes_run : (moves : List Move) (rs before now new : List Run) (i : ℕ) (joining joining' : Joining) → i < length rs
@@ -84,18 +210,9 @@ module _ (moves : List Move) (rs before now : List Run) (i : ℕ) (joining : Joi
   pub takes_no_run : drop i rs ≡ [] → IsJoining before now joining (map (moved_mapping moves) (mappings_of_runs (take (i + 1) rs)))
   takes_no_run none = subst (λ (xs : List Run). IsJoining before now joining (map (moved_mapping moves) (mappings_of_runs xs))) (none_taken rs i none) is
 
--- all were taken
-pub has_all : (moves : List Move) (rs before new : List Run) (i n : ℕ) → i ≡ n → HasRuns before new (map (moved_mapping moves) (mappings_of_runs (take i rs)))
-    → HasRuns before new (map (moved_mapping moves) (mappings_of_runs (take n rs)))
-has_all moves rs before new i n all has = subst (λ (k : ℕ). HasRuns before new (map (moved_mapping moves) (mappings_of_runs (take k rs)))) all has
-
 module _ (n : ℕ) (runs : List Run) (all : AllByRecursion FitsRun runs) where
   both_fit : AllByRecursion FitsRun (take n runs ++ drop n runs)
   both_fit = subst (AllByRecursion FitsRun) (sym (take-append-drop n runs)) all
 
   pub left_fit : AllByRecursion FitsRun (drop n runs)
   left_fit = all_last FitsRun (take n runs) (drop n runs) both_fit
-
--- a run that is met fits
-pub fits_met : (rs : List Run) (i : ℕ) (r : Run) (rest : List Run) → AllByRecursion FitsRun rs → drop i rs ≡ r ∷ rest → FitsRun r
-fits_met rs i r rest all met = let fits = rw met at (left_fit i rs all) in fits.0

@@ -5,25 +5,22 @@ use Rattle.std.proofs.lemmas.List.{length-append, length-replicate, take_all, ta
 use Rattle.pd_kinds.specs.declared.kind.Kind.TheVariants.{Thin}
 use Rattle.pd_kinds.specs.declared.kind.Stage.{Stage}
 use Rattle.pd_kinds.specs.declared.kind.Stage.TheVariants.{Super, Walk, Order, Whole, Counts}
-use Rattle.pd_kinds.specs.declared.map_root.SmRoot.{SmRoot}
+use Rattle.pd_kinds.specs.declared.superblocks.SmRoot.{SmRoot}
 use Rattle.pd_kinds.specs.declared.rule.Rule.{Rule}
 use Rattle.pd_kinds.specs.Graph.{block_at}
-use Rattle.pd_kinds.specs.Image.{HasBytes}
-use Rattle.pd_kinds.specs.Limits.{room_of}
+use Rattle.pd_kinds.specs.Image.{HasBytes, room_of}
 use Rattle.pd_kinds.specs.Meaning.{ThinPool, thin_meaning}
 use Rattle.pd_kinds.specs.Stages.{Checked, checked_of, faults, first_failing, stage_faults}
-use Rattle.pd_kinds.specs.ThinSuper.{ThinFields, thin_fields, thin_super_bad}
+use Rattle.pd_kinds.specs.ThinFormat.{ThinFields, thin_fields, thin_super_bad}
+use Rattle.pd_kinds.proofs.CrashLemmas.{Image}
 use Rattle.pd_laid.specs.Shape.{pool_of}
-use Rattle.pd_smap.specs.Entries.{IsIndex, IsOverflow}
-use Rattle.pd_answers.specs.CachedView.{blocks_each, is_block_size_bad}
-use Rattle.pd_answers.specs.Makings.{Making}
-use Rattle.pd_answers.specs.MovedPool.{Move, data_need, end_of_pool, free_blocks, moved_pool, moves_to, sources}
-use Rattle.pd_answers.specs.MovedShape.{moved_saved, moved_shape, saved_pool, saved_whole}
+use Rattle.pd_answers.specs.Writebacks.{blocks_each, is_block_size_bad}
+use Rattle.pd_answers.specs.Outputs.{Making}
+use Rattle.pd_answers.specs.Shrinks.{Move, data_need, end_of_pool, free_blocks, moved_pool, moves_to, sources, moved_saved, moved_shape, saved_pool, saved_whole, IsGroundOf, ShrinkGround, bad_block_size, no_room}
 use Rattle.pd_answers.specs.Repairs.{Saved, saved_making}
-use Rattle.pd_answers.specs.Shrinks.{IsGroundOf, ShrinkGround, bad_block_size, no_room}
-use Rattle.pd_changed.specs.Moving.{AreBelow, Ascend}
-use Rattle.pd_shrink.specs.declared.fault.ShrinkFault.{ShrinkFault}
-use Rattle.pd_shrink.specs.declared.fault.ShrinkFault.TheVariants as f
+use Rattle.pd_smap.specs.Overflow.{IsIndex, IsOverflow}
+use Rattle.pd_laws_changed.specs.KnownPool.{AreBelow, Ascend}
+use Rattle.pd_shrink.specs.declared.making.ShrinkFault.{ShrinkFault}
 use Rattle.pd_shrink.specs.declared.kept.Kept.{Kept}
 use Rattle.pd_shrink.specs.declared.moves.MovedBlock.{MovedBlock}
 use Rattle.pd_shrink.specs.declared.plan.Shrink.{Shrink}
@@ -32,14 +29,11 @@ use Rattle.pd_shrink.specs.Kept.{IsKept, kept_making, kept_pool, moved_in, saved
 use Rattle.pd_shrink.specs.Making.{Finishes, HasMoves, IsSoundPool, IsSoundWith, LooksAtRoom, MissesMoves, lack_of_moves}
 use Rattle.pd_shrink.specs.Moves.{moves_in}
 use Rattle.pd_shrink.specs.Planned.{HasLack, Plans}
-use Rattle.pd_shrink.specs.Unused.{unused_below}
-use Rattle.pd_shrink.proofs.KeptLemmas.{by_kept, whole_number, whole_size}
+use Rattle.pd_shrink.specs.Gathered.{unused_below}
+use Rattle.pd_shrink.proofs.RoomLemmas.{by_kept, whole_number, whole_size, across_all, bad_size, data_enough, free_enough, moves_lacking, moves_take, nothing_lacking, once_all, output_lacking}
 use Rattle.pd_shrink.proofs.MovesLemmas.{sources_from}
-use Rattle.pd_shrink.proofs.RoomLemmas.{across_all, bad_size, data_enough, free_enough, moves_lacking, moves_take, nothing_lacking, once_all, output_lacking}
 use Rattle.pd_shrink.proofs.SuperLemmas.{sound_where_none}
-
-abbrev Image : Type 0
-Image = List (List ℕ)
+use Rattle.pd_shrink.specs.declared.making.ShrinkFault.TheVariants as f
 
 -- no fault up to a stage, and none up to an earlier one
 none_before : (checked : Checked) (image : Image) (stages later : List Stage) → first_failing checked image (stages ++ later) ≡ [] → first_failing checked image stages ≡ []

@@ -1,14 +1,25 @@
 -- What a shrink lacks, and what it moves where nothing is lacking.
-use Rattle.std.proofs.Common.{◌≡◌, inl, inr, ℕ, suc, ◌+◌, ◌-◌, ◌*◌, ◌<◌, ◌≤◌, max, Bool, true, false, nat_eq, nat_lt, List, [], ◌∷◌, length, map, take, Option, Some, None, refl, sym, ap, ◌∙◌, arith, le-ltb, lt-ltb}
+use Rattle.std.proofs.Common.{◌≡◌, inl, inr, ℕ, suc, ◌+◌, ◌-◌, ◌*◌, ◌<◌, ◌≤◌, max, Bool, true, false, nat_eq, nat_lt, List, [], ◌∷◌, length, map, take, Option, Some, None, refl, sym, ap, ◌∙◌, arith, le-ltb, lt-ltb, subst}
 use Rattle.std.specs.List.{AllByRecursion, fold, list_any}
 use Rattle.std.proofs.lemmas.Bool.{cases_Bool, ltb-false, ne_eqb}
-use Rattle.pd_answers.specs.CachedView.{blocks_each, is_block_size_bad}
-use Rattle.pd_answers.specs.MovedPool.{Move, data_need, moves_to, sources}
-use Rattle.pd_answers.specs.Shrinks.{ShrinkLack, ShrinkGround, bad_block_size, lack_of, making_after, moves_of, no_room, or_lack, pool_before}
-use Rattle.pd_changed.specs.Moving.{AreBelow, Ascend}
+use Rattle.pd_kinds.specs.Meaning.{thin_meaning}
+use Rattle.pd_kinds.proofs.CrashLemmas.{Image}
+use Rattle.pd_grammar.specs.Lawful.{IsLawfulPool}
+use Rattle.pd_laid.specs.Shape.{pool_of as pool_of_shape, image_shape}
+use Rattle.pd_answers.specs.Writebacks.{blocks_each, is_block_size_bad}
+use Rattle.pd_answers.specs.Shrinks.{Move, data_need, moves_to, sources, ShrinkLack, ShrinkGround, bad_block_size, lack_of, making_after, moves_of, no_room, or_lack, pool_before, saved_pool, saved_whole}
+use Rattle.pd_answers.specs.Repairs.{Saved}
+use Rattle.pd_salvage.specs.declared.saved.SavedHead.{SavedHead}
+use Rattle.pd_salvage.specs.Saved.{pool_of}
+use Rattle.pd_salvage.specs.SavedShape.{held_shape}
+use Rattle.pd_laws_changed.specs.KnownPool.{AreBelow, Ascend}
+use Rattle.pd_writeback.proofs.PlanLemmas.{greatest_start}
 use Rattle.pd_shrink.specs.Making.{lack_of_moves}
 use Rattle.pd_shrink.specs.Moves.{AreOnce, IsAcross, move_in, moves_in}
 use Rattle.pd_shrink.specs.declared.moves.MovedBlock.{MovedBlock}
+use Rattle.pd_shrink.specs.declared.kept.Kept.{Kept}
+use Rattle.pd_shrink.specs.declared.kept.Kept.TheVariants.{Pool, Shape}
+use Rattle.pd_shrink.specs.Kept.{IsKept, IsSoundKept, head_in, kept_pool, saved_in, shared_of}
 
 isnt_none : {X : Type 0} {x : X} → Some x ≡ None → ⊥
 isnt_none e = cc
@@ -107,11 +118,6 @@ moves_take [] free = refl
 moves_take (d ∷ _) [] = refl
 moves_take (d ∷ later) (b ∷ free) = ap (λ (moves : List Move). record { source = d; target = b } ∷ moves) (moves_take later free)
 
--- the greatest of some numbers is at least the first of them
-greatest_start : (a : ℕ) (xs : List ℕ) → a ≤ fold max a xs
-greatest_start a [] = omega arith
-greatest_start a (x ∷ xs) = let more = greatest_start (max a x) xs in omega arith
-
 -- the data blocks of moves are on the data device, the sources past the end and the targets below it
 pub across_all : (k blocks end least most : ℕ) (moves : List MovedBlock) (ds free : List ℕ) → moves_in moves ≡ moves_to ds free → end ≤ least → Ascend least ds → AreBelow end free
     → fold max most (map (λ d. (d + 1) * k) ds) ≤ blocks → AllByRecursion (IsAcross k blocks end) moves
@@ -153,3 +159,46 @@ once_all least (x ∷ moves) (d ∷ ds) (b ∷ free) are ascend =
     let target : x.target ≡ b = ap (λ (y : Move). y.target) first in
     let later : moves_in moves ≡ moves_to ds free = cc in
     (past_all (b + 1) x.target moves ds free later (omega arith) ascend.1, once_all (b + 1) moves ds free later ascend.1)
+
+-- A pool as it is held, without the leaves that its devices share or with them.
+
+-- what holds of what is held holds of the pool that it is
+pub by_kept : (P : (is_shared : Bool) → Saved is_shared → Type 0) (is_shared : Bool) (saved : Saved is_shared) (kept : Kept) → IsKept is_shared saved kept
+    → P (shared_of kept) (saved_in kept) → P is_shared saved
+by_kept P false pool (Pool saved) is holds = subst (P false) is holds
+by_kept P false pool (Shape saved) is holds = absurd is
+by_kept P true shape (Pool saved) is holds = absurd is
+by_kept P true shape (Shape saved) is holds = subst (P true) is holds
+
+-- the head of a pool that is held
+pub pool_size : (kept : Kept) (head : SavedHead) → head ≡ head_in kept → (kept_pool kept).block_size ≡ head.block_size
+unfolding pool_of pool_of_shape held_shape
+pool_size (Pool saved) head is = ap (λ (h : SavedHead). h.block_size) (sym is)
+pool_size (Shape saved) head is = ap (λ (h : SavedHead). h.block_size) (sym is)
+
+pub pool_number : (kept : Kept) (head : SavedHead) → head ≡ head_in kept → (kept_pool kept).data_blocks ≡ head.blocks
+unfolding pool_of pool_of_shape held_shape
+pool_number (Pool saved) head is = ap (λ (h : SavedHead). h.blocks) (sym is)
+pool_number (Shape saved) head is = ap (λ (h : SavedHead). h.blocks) (sym is)
+
+-- it is lawful
+pub lawful_kept : (kept : Kept) → IsSoundKept kept → IsLawfulPool (kept_pool kept)
+lawful_kept (Pool saved) sound = sound.lawful
+lawful_kept (Shape saved) sound = sound.lawful
+
+-- a sound pool has the block size and the data blocks of its image
+size_whole : (is_shared : Bool) (image : Image) → (saved_pool is_shared (saved_whole is_shared image)).block_size ≡ (thin_meaning image).block_size
+unfolding pool_of_shape image_shape
+size_whole false image = refl
+size_whole true image = refl
+
+number_whole : (is_shared : Bool) (image : Image) → (saved_pool is_shared (saved_whole is_shared image)).data_blocks ≡ (thin_meaning image).data_blocks
+unfolding pool_of_shape image_shape
+number_whole false image = refl
+number_whole true image = refl
+
+pub whole_size : (is_shared : Bool) (saved : Saved is_shared) (image : Image) → saved ≡ saved_whole is_shared image → (saved_pool is_shared saved).block_size ≡ (thin_meaning image).block_size
+whole_size is_shared saved image means = ap (λ (s : Saved is_shared). (saved_pool is_shared s).block_size) means ∙ size_whole is_shared image
+
+pub whole_number : (is_shared : Bool) (saved : Saved is_shared) (image : Image) → saved ≡ saved_whole is_shared image → (saved_pool is_shared saved).data_blocks ≡ (thin_meaning image).data_blocks
+whole_number is_shared saved image means = ap (λ (s : Saved is_shared). (saved_pool is_shared s).data_blocks) means ∙ number_whole is_shared image

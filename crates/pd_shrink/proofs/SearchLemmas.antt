@@ -1,37 +1,29 @@
 -- How steps of a search for free blocks join.
-use Rattle.std.proofs.Common.{◌≡◌, ◌∙◌, ℕ, ◌+◌, ◌-◌, ◌*◌, ◌/◌, ◌%◌, ◌<◌, ◌≤◌, min, Option, Some, None, IfSome, Bool, true, false, cond, List, [], ◌∷◌, ◌++◌, length, ap, sym, refl, subst, arith}
+use Rattle.std.proofs.Common.{◌≡◌, ◌∙◌, ℕ, ◌+◌, ◌-◌, ◌*◌, ◌/◌, ◌%◌, ◌<◌, ◌≤◌, min, Option, IfSome, Bool, true, false, cond, List, [], ◌∷◌, ◌++◌, length, ap, sym, refl, subst, arith}
 use Rattle.std.specs.Prelude.{◌==◌}
 use Rattle.std.specs.List.{range_with_len}
 use Rattle.std.proofs.lemmas.List.{length-take, take_all}
 use Rattle.std.proofs.lemmas.List.FromFn.{length-range_with_len}
-use Rattle.pd_kinds.specs.declared.map_root.SmRoot.{SmRoot}
+use Rattle.pd_kinds.specs.declared.superblocks.SmRoot.{SmRoot}
 use Rattle.pd_kinds.specs.Bitmap.{two_bits_of}
 use Rattle.pd_kinds.specs.Graph.{block_at}
 use Rattle.pd_kinds.specs.Objects.{DeviceState}
 use Rattle.pd_kinds.specs.Trees.{value_of_key}
-use Rattle.pd_image.specs.Device.{OnlyReads}
-use Rattle.pd_image.proofs.ReadLemmas.{only_reads_both}
+use Rattle.pd_kinds.proofs.ResultLemmas.{if_all, if_maps, if_then, if_three}
 use Rattle.pd_value.specs.declared.space_map.Count.{Count}
+use Rattle.pd_bitmap.specs.Counts.{AreAll}
+use Rattle.pd_image.specs.Device.{OnlyReads}
+use Rattle.pd_image.proofs.CrashLemmas.{only_reads_both}
 use Rattle.pd_tree.specs.Below.{items_below}
-use Rattle.pd_smap.specs.Entries.{IsIndex, IsOverflow, count_from, data_place, overflow_of}
-use Rattle.pd_bitmap.specs.Groups.{AreAll}
-use Rattle.pd_smap.specs.OverflowLeft.{IsAhead, stored_by}
-use Rattle.pd_smap.specs.Steps.{bits_at, bits_by, bits_from}
-use Rattle.pd_smap.proofs.BitmapLemmas.{map_bits}
+use Rattle.pd_smap.specs.Overflow.{IsIndex, IsOverflow, count_from, data_place, overflow_of}
+use Rattle.pd_smap.specs.Steps.{IsAhead, stored_by, bits_at, bits_by, bits_from}
+use Rattle.pd_smap.proofs.CountLemmas.{map_bits}
 use Rattle.pd_smap.proofs.MapLemmas.{few_bits, stored_data_is}
-use Rattle.pd_smap.proofs.OverflowLeftLemmas.{ahead_later, if_maps, if_then}
-use Rattle.pd_smap.proofs.RiseLemmas.{all_ahead}
-use Rattle.pd_smap.proofs.StepLemmas.{if_all}
-use Rattle.pd_changed.specs.Moving.{AreBelow, Ascend}
+use Rattle.pd_smap.proofs.OverflowLeftLemmas.{ahead_later, all_ahead}
+use Rattle.pd_laws_changed.specs.KnownPool.{AreBelow, Ascend}
 use Rattle.pd_shrink.specs.declared.free.FreeBlocks.{FreeBlocks}
-use Rattle.pd_shrink.specs.Gathered.{FindsFree, Gathers, HoldsFirstFree, AscendWithin, Searched, Standing, numbers_where, is_free_by, with_reads}
-use Rattle.pd_shrink.specs.Unused.{is_unused, is_zero, unused_below}
+use Rattle.pd_shrink.specs.Gathered.{FindsFree, Gathers, HoldsFirstFree, AscendWithin, Searched, Standing, numbers_where, is_free_by, with_reads, is_unused, is_zero, unused_below}
 use Rattle.pd_shrink.proofs.GatherLemmas.{chosen_all, chosen_none, chosen_one, chosen_same, chosen_split, gathers_full, gathers_none, gathers_then, length-lie, lie_first, lie_row, lie_then}
-
--- three facts over a told image
-if_three : {X : Type 0} → (o : Option X) (P Q R S : X → Type 0) → ((x : X) → P x → Q x → R x → S x) → IfSome o P → IfSome o Q → IfSome o R → IfSome o S
-if_three None P Q R S f p q r = tt
-if_three (Some x) P Q R S f p q r = f x p q r
 
 -- a step, and then another one
 finds_then : (bits : List (List ℕ) → ℕ → ℕ) (image : List (List ℕ)) (low m n : ℕ) (ds es : List ℕ) (s t u : Standing)

@@ -5,28 +5,27 @@ use Rattle.std.specs.Prelude.{sum_by}
 use Rattle.std.proofs.lemmas.List.{length-map, nil_from_length, take-append-drop}
 use Rattle.std.proofs.lemmas.List.Sums.{sum_by-cons, sum_by-take-drop}
 use Rattle.pd_kinds.specs.Meaning.{Mapping}
+use Rattle.pd_kinds.proofs.ListLemmas.{all_append}
+use Rattle.pd_grammar.specs.Lawful.{AreDevices, AreMappings}
 use Rattle.pd_laid.specs.Shape.{ShapeDevice, ThinShape, device_of, piece_mappings, pool_of, shared}
-use Rattle.pd_laws.proofs.AllLemmas.{all_append}
-use Rattle.pd_shapes.specs.PoolText.{IsLawfulShape}
-use Rattle.pd_shapes.specs.SharedText.{SharedPart, device_of_part, mappings_of_runs, piece_of_part}
-use Rattle.pd_shapes.proofs.LeafRuns.{IsLeaf}
-use Rattle.pd_shapes.proofs.UsedLeaves.{are_leaves}
-use Rattle.pd_spells.specs.Lawful.{AreDevices, AreMappings}
-use Rattle.pd_answers.specs.MovedPool.{Move, moves_to, sources}
-use Rattle.pd_answers.specs.MovedShape.{moved_piece, moved_shape, moved_shape_device}
-use Rattle.pd_changed.specs.Moving.{IsMoving}
-use Rattle.pd_thin_meaning.specs.declared.joined.Run.{Run}
-use Rattle.pd_thin_meaning.specs.Joined.{spelled}
+use Rattle.pd_laid.specs.PoolText.{IsLawfulShape, SharedPart, device_of_part, mappings_of_runs, piece_of_part}
+use Rattle.pd_laid.proofs.LeafRuns.{IsLeaf, are_leaves, mappings_in_front}
+use Rattle.pd_answers.specs.Shrinks.{Move, moves_to, sources, moved_piece, moved_shape, moved_shape_device}
+use Rattle.pd_meaning_thin.specs.declared.joined.Run.{Run}
+use Rattle.pd_meaning_thin.specs.Runs.{spelled}
+use Rattle.pd_restore.proofs.ShapeNeedLemmas.{take_front}
+use Rattle.pd_restore.proofs.ShapeTextLemmas.{leaves_have}
+use Rattle.pd_restore.proofs.ShapePartLemmas.{from_there}
+use Rattle.pd_restore.specs.ShapeNeed.{pieces_of}
 use Rattle.pd_salvage.specs.declared.saved.SavedHead.{SavedHead}
 use Rattle.pd_salvage.specs.declared.saved_shape.SavedLeaf.{SavedLeaf}
 use Rattle.pd_salvage.specs.declared.saved_shape.SavedPiece.{SavedPiece}
 use Rattle.pd_salvage.specs.declared.saved_shape.SavedPiece.TheVariants.{Own, Shared}
 use Rattle.pd_salvage.specs.declared.saved_shape.ShapedDevice.{ShapedDevice}
 use Rattle.pd_salvage.specs.SavedShape.{HeldShape, IsPartJoined, IsSavedShape, device_parts, held, held_shape, leaf_parts, piece_parts, runs_of_piece, runs_of_pieces}
-use Rattle.pd_restore.proofs.ShapeNeedLemmas.{take_front}
-use Rattle.pd_restore.proofs.ShapeTextLemmas.{leaves_have}
+use Rattle.pd_laws_changed.specs.KnownPool.{IsMoving}
 use Rattle.pd_shrink.specs.declared.moving.Moved.{Moved}
-use Rattle.pd_shrink.specs.Moving.{AreMoved, AreMovesFrom, AreMovesOf, FitsRun, entries_of_leaf, head_to, leaf_of_piece, moved_mappings, runs_of_leaf, split_mappings}
+use Rattle.pd_shrink.specs.Moves.{AreMoved, AreMovesFrom, AreMovesOf, FitsRun, entries_of_leaf, head_to, leaf_of_piece, moved_mappings, runs_of_leaf, split_mappings}
 use Rattle.pd_shrink.proofs.MovesLemmas.{moves_are_ordered, part_fits}
 use Rattle.pd_shrink.proofs.ShapeParts.{devices_are, devices_joined, devices_moved, leaves_are, leaves_count, leaves_counted, leaves_joined, pieces_are, pieces_by, pieces_joined, pieces_moved, sizes, sizes_stay}
 
@@ -39,15 +38,6 @@ leaves_fit blocks (leaf ∷ leaves) runs few number are =
     (all_append FitsRun (take leaf.runs runs) (drop leaf.runs runs) (part_fits blocks 0 (take leaf.runs runs) few are.0.mappings)
     (leaves_fit blocks leaves (drop leaf.runs runs) few (omega (arith, number, sum_by-cons runs_of_leaf leaf leaves, length-drop leaf.runs runs)) are.1))
 
--- lawful mappings, in front and behind
-in_front : (blocks least : ℕ) (ms ns : List Mapping) → AreMappings blocks least (ms ++ ns) → AreMappings blocks least ms
-in_front blocks least [] ns are = tt
-in_front blocks least (m ∷ ms) ns are = (are.0, in_front blocks (m.virtual_block + 1) ms ns are.1)
-
-from_there : (blocks least : ℕ) (ms ns : List Mapping) → AreMappings blocks least (ms ++ ns) → (next : ℕ) × AreMappings blocks next ns
-from_there blocks least [] ns are = (least, are)
-from_there blocks least (m ∷ ms) ns are = from_there blocks (m.virtual_block + 1) ms ns are.1
-
 -- so do those of pieces
 pieces_fit : (blocks least : ℕ) (leaves : List (List Mapping)) (ps : List SavedPiece) (runs : List Run) → blocks ≤ 2 ^ 40
     → AreMappings blocks least (flat_map (piece_mappings leaves) (map piece_of_part (piece_parts ps runs))) → AllByRecursion FitsRun (take (runs_of_pieces ps) runs)
@@ -59,16 +49,13 @@ pieces_fit blocks least leaves (Own k ∷ ps) runs few are =
     let all : take k runs ++ take (runs_of_pieces ps) (drop k runs) ≡ take (runs_of_pieces (Own k ∷ ps)) runs =
     sym (take_front k (runs_of_pieces ps) runs) ∙ ap (λ (n : ℕ). take n runs) (sym (sum_by-cons runs_of_piece (Own k) ps)) in
     subst (AllByRecursion FitsRun) all
-    (all_append FitsRun (take k runs) (take (runs_of_pieces ps) (drop k runs)) (part_fits blocks least (take k runs) few (in_front blocks least mine others are))
+    (all_append FitsRun (take k runs) (take (runs_of_pieces ps) (drop k runs)) (part_fits blocks least (take k runs) few (mappings_in_front blocks least mine others are))
     (pieces_fit blocks later.0 leaves ps (drop k runs) few later.1))
 pieces_fit blocks least leaves (Shared number ∷ ps) runs few are =
     let others = flat_map (piece_mappings leaves) (map piece_of_part (piece_parts ps runs)) in
     let later = from_there blocks least (piece_mappings leaves (shared number)) others are in
     let same : runs_of_pieces ps ≡ runs_of_pieces (Shared number ∷ ps) = omega (arith, sum_by-cons runs_of_piece (Shared number) ps) in
     subst (λ (n : ℕ). AllByRecursion FitsRun (take n runs)) same (pieces_fit blocks later.0 leaves ps runs few later.1)
-
-abbrev pieces_of : List ShapedDevice → ℕ
-pieces_of ds = sum_by (λ (d : ShapedDevice). d.pieces) ds
 
 devices_fit : (blocks least : ℕ) (leaves : List (List Mapping)) (ds : List ShapedDevice) (ps : List SavedPiece) (runs : List Run) → blocks ≤ 2 ^ 40 → pieces_of ds ≡ length ps
     → runs_of_pieces ps ≡ length runs → AreDevices blocks least (map (device_of leaves) (map device_of_part (device_parts ds ps runs))) → AllByRecursion FitsRun runs

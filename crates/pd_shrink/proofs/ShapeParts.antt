@@ -4,19 +4,18 @@ use Rattle.std.specs.List.{AllByRecursion}
 use Rattle.std.proofs.lemmas.List.{drop-drop, drop-map, length-map, take-append-drop, take-map}
 use Rattle.std.proofs.lemmas.List.Sums.{sum_by-cons}
 use Rattle.pd_kinds.specs.Meaning.{Mapping}
+use Rattle.pd_kinds.proofs.KindsListLemmas.{all_first, all_last}
 use Rattle.pd_laid.specs.Shape.{Piece, own, shared, ShapeDevice}
-use Rattle.pd_laid.proofs.GatherLemmas.{all_first, all_last}
-use Rattle.pd_shapes.specs.SharedText.{PartPiece, SharedPart, device_of_part, mappings_of_runs, piece_of_part}
-use Rattle.pd_answers.specs.MovedPool.{Move, moved_mapping}
-use Rattle.pd_answers.specs.MovedShape.{moved_piece, moved_shape_device}
-use Rattle.pd_thin_meaning.specs.declared.joined.Run.{Run}
-use Rattle.pd_thin_meaning.specs.Joined.{spelled}
+use Rattle.pd_laid.specs.PoolText.{PartPiece, SharedPart, device_of_part, mappings_of_runs, piece_of_part}
+use Rattle.pd_answers.specs.Shrinks.{Move, moved_mapping, moved_piece, moved_shape_device}
+use Rattle.pd_meaning_thin.specs.declared.joined.Run.{Run}
+use Rattle.pd_meaning_thin.specs.Runs.{spelled}
 use Rattle.pd_salvage.specs.declared.saved_shape.SavedLeaf.{SavedLeaf}
 use Rattle.pd_salvage.specs.declared.saved_shape.SavedPiece.{SavedPiece}
 use Rattle.pd_salvage.specs.declared.saved_shape.SavedPiece.TheVariants.{Own, Shared}
 use Rattle.pd_salvage.specs.declared.saved_shape.ShapedDevice.{ShapedDevice}
 use Rattle.pd_salvage.specs.SavedShape.{AreCounted, IsJoined, IsPartJoined, IsPieceJoined, device_part, device_parts, leaf_parts, piece_part, piece_parts, runs_of_piece, runs_of_pieces}
-use Rattle.pd_shrink.specs.Moving.{AreJoined, entries_of_leaf, leaf_of_piece, moved_mappings, runs_of_leaf, split_mappings, split_runs}
+use Rattle.pd_shrink.specs.Moves.{AreJoined, entries_of_leaf, leaf_of_piece, moved_mappings, runs_of_leaf, split_mappings, split_runs}
 
 -- the mappings of the leaves, how many each says that it has, and that their runs are as long as can be
 pub leaves_are : (leaves : List SavedLeaf) (runs : List Run) → map mappings_of_runs (leaf_parts leaves runs) ≡ split_mappings runs_of_leaf leaves runs

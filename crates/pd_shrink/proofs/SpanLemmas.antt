@@ -9,27 +9,26 @@ use Rattle.std.proofs.lemmas.List.{append-nil, nil_from_length, take_more}
 use Rattle.std.proofs.lemmas.List.Elements.{All-from_recursion, filter-append, filter_agree, recursion_from_All}
 use Rattle.std.proofs.lemmas.List.Folds.{list_any-append}
 use Rattle.std.proofs.lemmas.List.Sorted.{All-permutation, list_any-IsPermutation}
-use Rattle.pd_smap.proofs.StepLemmas.{range_split}
-use Rattle.pd_spells.specs.ThinNeed.{mapped_data}
-use Rattle.pd_thin_meaning.specs.declared.joined.Run.{Run}
-use Rattle.pd_answers.specs.MovedPool.{sources}
 use Rattle.pd_kinds.specs.Meaning.{ThinPool}
+use Rattle.pd_kinds.proofs.KindsListLemmas.{all_first, all_last}
+use Rattle.pd_kinds.proofs.NumberLemmas.{range_split}
+use Rattle.pd_kinds.proofs.ListLemmas.{all_append}
+use Rattle.pd_grammar.specs.Need.{mapped_data}
 use Rattle.pd_laid.specs.Shape.{pool_of as pool_of_shape}
-use Rattle.pd_laid.proofs.GatherLemmas.{all_first, all_last}
-use Rattle.pd_laws.proofs.AllLemmas.{all_append}
+use Rattle.pd_answers.specs.Shrinks.{sources}
+use Rattle.pd_meaning_thin.specs.declared.joined.Run.{Run}
+use Rattle.pd_restore.specs.ShapeNeed.{data_of_runs}
+use Rattle.pd_restore.proofs.SavedNeedLemmas.{row_more, IsWithin, data_is, runs_within}
+use Rattle.pd_restore.proofs.ShapePartLemmas.{data_is as shape_data_is, leaf_runs_within, own_runs_within}
 use Rattle.pd_salvage.specs.Saved.{pool_of}
 use Rattle.pd_salvage.specs.SavedShape.{held_shape}
-use Rattle.pd_restore.specs.Overflowing.{data_of_runs}
-use Rattle.pd_restore.proofs.OverflowingLemmas.{row_more}
-use Rattle.pd_restore.proofs.SavedNeedLemmas.{IsWithin, data_is, runs_within}
-use Rattle.pd_restore.proofs.ShapePartLemmas.{data_is as shape_data_is, leaf_runs_within, own_runs_within}
 use Rattle.pd_shrink.specs.declared.kept.Kept.{Kept}
 use Rattle.pd_shrink.specs.declared.kept.Kept.TheVariants.{Pool, Shape}
 use Rattle.pd_shrink.specs.Kept.{IsSoundKept, kept_pool, leaf_runs_in, own_runs_in}
-use Rattle.pd_shrink.specs.Spans.{blocks_between, has_block, is_in_spans, span_between, spans_past, union_from}
+use Rattle.pd_shrink.specs.Making.{blocks_between, has_block, is_in_spans, span_between, spans_past, union_from}
 use Rattle.pd_shrink.specs.declared.sources.Span.{Span}
-use Rattle.pd_shrink.proofs.KeptLemmas.{lawful_kept}
-use Rattle.pd_shrink.proofs.MetLemmas.{met_is, met_within}
+use Rattle.pd_shrink.proofs.RoomLemmas.{lawful_kept}
+use Rattle.pd_shrink.proofs.MovingLemmas.{met_is, met_within}
 use Rattle.pd_shrink.proofs.ToldLemmas.{told_names}
 
 -- a filter of a row of which none passes, and of one of which each does

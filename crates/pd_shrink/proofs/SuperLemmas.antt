@@ -2,18 +2,15 @@
 use Rattle.std.proofs.Common.{◌≡◌, ℕ, ◌≤◌, List, [], ◌∷◌, length, subst, sym, arith}
 use Rattle.pd_kinds.specs.declared.kind.Kind.TheVariants.{Thin}
 use Rattle.pd_kinds.specs.declared.kind.Stage.TheVariants.{Walk, Order, Whole, Counts}
-use Rattle.pd_kinds.specs.Edge.{Edge, optional_edge}
-use Rattle.pd_kinds.specs.Graph.{block_at}
+use Rattle.pd_kinds.specs.Graph.{Edge, optional_edge, block_at}
 use Rattle.pd_kinds.specs.Stages.{HasCleanSuper, faults, thin_checked}
-use Rattle.pd_kinds.specs.ThinSuper.{ThinFields, thin_fields, thin_super_bad}
-use Rattle.pd_laws.proofs.CleanLemmas.{clean_super_where_none}
-use Rattle.pd_laws.proofs.SoundLemmas.{IsInside, IsSound}
-use Rattle.pd_laws.proofs.ThinTable.{few_data_blocks, super_sound}
+use Rattle.pd_kinds.specs.ThinFormat.{ThinFields, thin_fields, thin_super_bad}
+use Rattle.pd_kinds.proofs.CrashLemmas.{Image}
+use Rattle.pd_kinds.proofs.KindsListLemmas.{all_last}
+use Rattle.pd_kinds.proofs.CleanLemmas.{clean_super_where_none}
+use Rattle.pd_kinds.proofs.SoundLemmas.{IsInside, IsSound}
+use Rattle.pd_kinds.proofs.ThinTable.{few_data_blocks, super_sound}
 use Rattle.pd_shrink.specs.Making.{FitsDevice}
-use Rattle.pd_laid.proofs.GatherLemmas.{all_last}
-
-abbrev Image : Type 0
-Image = List (List ℕ)
 
 fits_block : (blocks : ℕ) (block : List ℕ) → IsSound (thin_super_bad blocks block) → FitsDevice blocks (thin_fields block)
 fits_block blocks block sound =

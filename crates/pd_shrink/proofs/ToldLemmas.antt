@@ -1,19 +1,14 @@
 -- A shape's shared leaves and own pieces name the data blocks that its meaning does.
-use Rattle.std.proofs.Common.{◌≡◌, ◌⊎◌, inl, inr, ℕ, zero, suc, ◌<◌, Bool, true, false, eqb, List, [], ◌∷◌, ◌++◌, length, map, refl, sym, subst, arith}
+use Rattle.std.proofs.Common.{◌≡◌, ◌⊎◌, inl, inr, ℕ, zero, suc, ◌<◌, Bool, true, eqb, List, [], ◌∷◌, ◌++◌, length, map, sym, subst, arith}
 use Rattle.std.specs.List.{flat_map, list_any}
 use Rattle.std.proofs.lemmas.Bool.{eqb-true, or_cases, true≢false}
 use Rattle.std.proofs.lemmas.List.{map-append}
 use Rattle.pd_kinds.specs.Meaning.{Mapping, ThinDevice}
+use Rattle.pd_kinds.proofs.NumberLemmas.{same_test}
+use Rattle.pd_grammar.specs.Need.{mapped_data}
 use Rattle.pd_laid.specs.Shape.{IsShape, Piece, own, shared, ShapeDevice, ThinShape, device_of, leaf_mappings, piece_mappings, pool_of, uses_of, uses_of_piece}
-use Rattle.pd_laid_graph.proofs.ListLemmas.{any_back, any_both, any_front}
-use Rattle.pd_shapes.specs.SharedNeed.{own_mappings, shape_data}
-use Rattle.pd_spells.specs.ThinNeed.{mapped_data}
-
--- tests that follow from each other
-both_follow : (x y : Bool) → (x ≡ true → y ≡ true) → (y ≡ true → x ≡ true) → x ≡ y
-both_follow true y there back = sym (there refl)
-both_follow false true there back = back refl
-both_follow false false there back = refl
+use Rattle.pd_laid.specs.PoolText.{own_mappings, shape_data}
+use Rattle.pd_laws_laid.proofs.ListLemmas.{any_back, any_both, any_front}
 
 module _ (b : ℕ) where
   -- whether a data block is one of these, and whether mappings name it
@@ -135,7 +130,7 @@ module _ (b : ℕ) where
 
   pub told_names : (w : ThinShape) → IsShape w → is_in (mapped_data (pool_of w)) ≡ is_in (shape_data w)
   unfolding pool_of shape_data
-  told_names w shape = both_follow (is_in (mapped w.leaves w.devices)) (is_in (data_of (all_of w.leaves ++ own_of w.devices))) there back'
+  told_names w shape = same_test (is_in (mapped w.leaves w.devices)) (is_in (data_of (all_of w.leaves ++ own_of w.devices))) there back'
     where
       there : is_in (mapped w.leaves w.devices) ≡ true → IsNamed (all_of w.leaves ++ own_of w.devices)
       there named = elim (devices_told w.leaves w.devices named) [

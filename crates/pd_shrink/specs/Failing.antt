@@ -1,8 +1,8 @@
 -- When a call that reads the metadata alone fails.
 use Rattle.std.specs.Prelude.{◌≡◌, ℕ, ◌≤◌, Result, Ok, Err}
 use Rattle.pd_kinds.specs.Objects.{Rose}
-use Rattle.pd_shrink.specs.declared.fault.ShrinkFault.{ShrinkFault}
-use Rattle.pd_shrink.specs.declared.fault.ShrinkFault.TheVariants.{Memory, Meta, Output, BlockSize, NoRoom}
+use Rattle.pd_shrink.specs.declared.making.ShrinkFault.{ShrinkFault}
+use Rattle.pd_shrink.specs.declared.making.ShrinkFault.TheVariants.{Memory, Meta, Output, BlockSize, NoRoom}
 
 -- memory was wanting, or the device's count of faults rose
 abbrev pub IsOfMeta : ShrinkFault → ℕ → ℕ → Type 0

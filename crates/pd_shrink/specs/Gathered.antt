@@ -1,15 +1,30 @@
 -- Free data blocks as they are gathered, bitmap after bitmap.
-use Rattle.std.specs.Prelude.{◌≡◌, ℕ, ◌+◌, ◌≤◌, Bool, List, ◌++◌, filter, length, take, Option, IfSome}
+-- The data blocks whose stored count is 0, by the bytes of any image.
+use Rattle.std.specs.Prelude.{ℕ, Bool, false, ◌==◌, List, filter, Option, Some, None, ◌≡◌, ◌+◌, ◌≤◌, ◌++◌, length, take, IfSome}
 use Rattle.std.specs.List.{range_with_len}
+use Rattle.pd_kinds.specs.declared.superblocks.SmRoot.{SmRoot}
+use Rattle.pd_kinds.specs.Trees.{stored_data_in}
 use Rattle.pd_kinds.specs.Objects.{DeviceState}
-use Rattle.pd_image.specs.Device.{OnlyReads}
 use Rattle.pd_value.specs.declared.space_map.Count.{Count}
+use Rattle.pd_image.specs.Device.{OnlyReads}
+use Rattle.pd_smap.specs.Overflow.{index_of, overflow_of, overflow_items, overflow_reads}
 use Rattle.pd_smap.specs.declared.overflow.Overflow.{Overflow}
-use Rattle.pd_smap.specs.Overflow.{overflow_items, overflow_reads}
-use Rattle.pd_smap.specs.OverflowLeft.{IsAhead, stored_by}
-use Rattle.pd_changed.specs.Moving.{AreBelow, Ascend}
+use Rattle.pd_smap.specs.Steps.{IsAhead, stored_by}
+use Rattle.pd_laws_changed.specs.KnownPool.{AreBelow, Ascend}
 use Rattle.pd_shrink.specs.declared.free.FreeBlocks.{FreeBlocks}
-use Rattle.pd_shrink.specs.Unused.{is_zero}
+
+-- a stored count is 0; where none is stored it isn't
+abbrev pub is_zero : Option ℕ → Bool
+is_zero None = false
+is_zero (Some count) = count == 0
+
+-- the stored count of a data block, by the trees of a map
+abbrev pub is_unused : List (List ℕ) → SmRoot → ℕ → Bool
+is_unused image map d = is_zero (stored_data_in image (index_of image map.bitmap_root) (overflow_of image map.overflow_root) d)
+
+-- the data blocks below a number whose count is 0, ascending
+unfoldable pub unused_below : List (List ℕ) → SmRoot → ℕ → List ℕ
+unused_below image map end = filter (is_unused image map) (range_with_len 0 end)
 
 -- of so many blocks from one on, those of which this holds
 unfoldable pub numbers_where : (ℕ → Bool) → ℕ → ℕ → List ℕ

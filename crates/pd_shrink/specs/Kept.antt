@@ -1,18 +1,17 @@
 -- A pool as it is held, without the leaves that its devices share or with them.
 use Rattle.std.specs.Prelude.{◌≡◌, ℕ, Bool, true, false, List, []}
 use Rattle.pd_kinds.specs.Meaning.{ThinPool}
-use Rattle.pd_shapes.specs.PoolText.{IsLawfulShape}
-use Rattle.pd_spells.specs.Lawful.{IsLawfulPool}
-use Rattle.pd_answers.specs.Makings.{Making}
-use Rattle.pd_answers.specs.MovedPool.{Move}
-use Rattle.pd_answers.specs.MovedShape.{moved_saved, saved_pool}
+use Rattle.pd_grammar.specs.Lawful.{IsLawfulPool}
+use Rattle.pd_laid.specs.PoolText.{IsLawfulShape}
+use Rattle.pd_answers.specs.Outputs.{Making}
+use Rattle.pd_answers.specs.Shrinks.{Move, moved_saved, saved_pool}
 use Rattle.pd_answers.specs.Repairs.{Saved, saved_making}
+use Rattle.pd_meaning_thin.specs.declared.joined.Run.{Run}
 use Rattle.pd_restoring.specs.Made.{Content}
-use Rattle.pd_thin_meaning.specs.declared.joined.Run.{Run}
 use Rattle.pd_salvage.specs.declared.saved.SavedHead.{SavedHead}
-use Rattle.pd_salvage.specs.Saved as held
 use Rattle.pd_salvage.specs.Saved.{IsSavedPool}
 use Rattle.pd_salvage.specs.SavedShape.{IsSavedShape, held_shape}
+use Rattle.pd_salvage.specs.Saved as held
 use Rattle.pd_shrink.specs.declared.kept.Kept.{Kept}
 use Rattle.pd_shrink.specs.declared.kept.Kept.TheVariants.{Pool, Shape}
 

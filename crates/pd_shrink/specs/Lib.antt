@@ -1,9 +1,6 @@
-pub mod Failing
 pub mod Gathered
-pub mod Moves
-pub mod Spans
-pub mod Moving
-pub mod Kept
-pub mod Unused
 pub mod Making
+pub mod Moves
+pub mod Failing
+pub mod Kept
 pub mod Planned

@@ -1,26 +1,26 @@
 -- How the plan of a shrink is made.
-use Rattle.std.specs.Prelude.{◌≡◌, ℕ, ◌+◌, ◌-◌, ◌^◌, ◌≤◌, ◌<◌, Bool, List, [], length, Option, Some, None, Result, Ok, Err, IfSome}
-use Rattle.std.specs.List.{AllByRecursion}
+-- Data blocks in rows: those of runs past the end of a smaller pool.
+use Rattle.std.specs.Prelude.{◌≡◌, ℕ, ◌+◌, ◌-◌, ◌^◌, ◌≤◌, ◌<◌, Bool, List, [], length, Option, Some, None, Result, Ok, Err, IfSome, max, nat_le, nat_lt, ◌&&◌, if◌then◌else◌, ◌∷◌, ◌++◌}
+use Rattle.std.specs.List.{AllByRecursion, flat_map, list_any, range_with_len}
 use Rattle.pd_kinds.specs.declared.kind.Kind.TheVariants.{Thin}
 use Rattle.pd_kinds.specs.declared.kind.Stage.TheVariants.{Counts}
-use Rattle.pd_kinds.specs.declared.map_root.SmRoot.{SmRoot}
+use Rattle.pd_kinds.specs.declared.superblocks.SmRoot.{SmRoot}
 use Rattle.pd_kinds.specs.Graph.{block_at}
-use Rattle.pd_kinds.specs.Limits.{room_of}
+use Rattle.pd_kinds.specs.Image.{room_of}
 use Rattle.pd_kinds.specs.Meaning.{ThinPool}
 use Rattle.pd_kinds.specs.Stages.{faults}
-use Rattle.pd_kinds.specs.ThinSuper.{ThinFields, thin_fields}
-use Rattle.pd_answers.specs.MovedPool.{data_need, free_blocks, moves_to, sources}
-use Rattle.pd_answers.specs.MovedShape.{saved_whole}
+use Rattle.pd_kinds.specs.ThinFormat.{ThinFields, thin_fields}
+use Rattle.pd_answers.specs.Shrinks.{data_need, free_blocks, moves_to, sources, saved_whole, ShrinkLack, no_room, or_lack}
 use Rattle.pd_answers.specs.Repairs.{Saved, saved_making}
-use Rattle.pd_answers.specs.Shrinks.{ShrinkLack, no_room, or_lack}
-use Rattle.pd_shrink.specs.declared.fault.ShrinkFault.{ShrinkFault}
-use Rattle.pd_shrink.specs.declared.fault.ShrinkFault.TheVariants.{Memory, Meta, Output, BlockSize, NoRoom}
+use Rattle.pd_meaning_thin.specs.declared.joined.Run.{Run}
+use Rattle.pd_shrink.specs.declared.making.ShrinkFault.{ShrinkFault}
+use Rattle.pd_shrink.specs.declared.making.ShrinkFault.TheVariants.{Memory, Meta, Output, BlockSize, NoRoom}
 use Rattle.pd_shrink.specs.declared.kept.Kept.{Kept}
 use Rattle.pd_shrink.specs.declared.moves.MovedBlock.{MovedBlock}
 use Rattle.pd_shrink.specs.declared.plan.Shrink.{Shrink}
 use Rattle.pd_shrink.specs.Kept.{IsKept, saved_in, shared_of}
-use Rattle.pd_shrink.specs.Moves.{AreOnce, IsAcross, moves_in}
-use Rattle.pd_shrink.specs.Moving.{AreMovesOf}
+use Rattle.pd_shrink.specs.Moves.{AreOnce, IsAcross, moves_in, AreMovesOf}
+use Rattle.pd_shrink.specs.declared.sources.Span.{Span}
 
 -- the numbers of a superblock that breaks no rule, on a device of so many blocks
 pub record FitsDevice (blocks : ℕ) (s : ThinFields) : Type 0 where
@@ -96,3 +96,27 @@ IsUnfinished is_shared after output (NoRoom need blocks) =
 abbrev pub Finishes : (is_shared : Bool) → Saved is_shared → List MovedBlock → ℕ → ℕ → ℕ → Result Shrink ShrinkFault → Type 0
 Finishes is_shared after moves k output pool (Ok shrink) = IsFinished is_shared after moves k output pool shrink
 Finishes is_shared after moves k output pool (Err fault) = IsUnfinished is_shared after output fault
+
+-- the numbers from one to below another
+abbrev pub blocks_between : ℕ → ℕ → List ℕ
+blocks_between first stop = range_with_len first (stop - first)
+
+-- a row, where it has a block
+abbrev pub span_between : ℕ → ℕ → List Span
+span_between first stop = if nat_lt first stop then record { first = first; stop = stop } ∷ [] else []
+
+-- what runs have past the end
+abbrev pub spans_past : ℕ → List Run → List Span
+spans_past end runs = flat_map (λ (r : Run). span_between (max r.target end) (r.target + r.length)) runs
+
+-- whether a row has a block, and whether one of some rows has it
+abbrev pub has_block : ℕ → Span → Bool
+has_block b s = nat_le s.first b && nat_lt b s.stop
+
+abbrev pub is_in_spans : List Span → ℕ → Bool
+is_in_spans spans b = list_any (has_block b) spans
+
+-- the blocks of rows one after another, without those below the least that may come
+unfoldable pub union_from : ℕ → List Span → List ℕ
+union_from least [] = []
+union_from least (s ∷ spans) = blocks_between (max s.first least) s.stop ++ union_from (max least s.stop) spans

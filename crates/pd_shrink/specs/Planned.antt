@@ -1,13 +1,12 @@
 -- What the plan of a shrink is, and of what.
 use Rattle.std.specs.Prelude.{◌≡◌, ℕ, Bool, List, Option, Some, None, Result, Ok, Err, IfSome}
-use Rattle.pd_kinds.specs.Limits.{room_of}
-use Rattle.pd_answers.specs.CachedView.{blocks_each}
-use Rattle.pd_answers.specs.MovedShape.{moved_saved}
+use Rattle.pd_kinds.specs.Image.{room_of}
+use Rattle.pd_answers.specs.Writebacks.{blocks_each}
+use Rattle.pd_answers.specs.Shrinks.{moved_saved, ShrinkLack, ShrinkGround, IsGroundOf, bad_block_size, lack_of, moves_of, no_room, pool_before}
 use Rattle.pd_answers.specs.Repairs.{Saved}
-use Rattle.pd_answers.specs.Shrinks.{ShrinkLack, ShrinkGround, IsGroundOf, bad_block_size, lack_of, moves_of, no_room, pool_before}
 use Rattle.pd_restoring.specs.Made.{Content, Ending, done, failed, lacking, unbegun}
-use Rattle.pd_shrink.specs.declared.fault.ShrinkFault.{ShrinkFault}
-use Rattle.pd_shrink.specs.declared.fault.ShrinkFault.TheVariants.{Memory, Meta, Output, BlockSize, NoRoom}
+use Rattle.pd_shrink.specs.declared.making.ShrinkFault.{ShrinkFault}
+use Rattle.pd_shrink.specs.declared.making.ShrinkFault.TheVariants.{Memory, Meta, Output, BlockSize, NoRoom}
 use Rattle.pd_shrink.specs.declared.plan.Shrink.{Shrink}
 use Rattle.pd_shrink.specs.Kept.{IsKept, saved_content}
 use Rattle.pd_shrink.specs.Moves.{moves_in}

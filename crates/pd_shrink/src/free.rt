@@ -1,4 +1,4 @@
-//! The free data blocks of a pool.
+//! The free data blocks of a pool (`thin_shrink`).
 
 ghost use Rattle.std.specs.Prelude.{◌≡◌, ◌+◌, ◌^◌, ◌<◌, ◌≤◌, ℕ, List, [], length, min, take, IfOk, IfSome, OnOk};
 ghost use Rattle.pd_kinds.specs.declared.kind.Kind.TheVariants.{Thin};
@@ -6,24 +6,21 @@ ghost use Rattle.pd_kinds.specs.declared.kind.Stage.TheVariants.{Counts};
 ghost use Rattle.pd_kinds.specs.Bitmap.{bitmaps_for};
 ghost use Rattle.pd_kinds.specs.Graph.{block_at};
 ghost use Rattle.pd_kinds.specs.Stages.{faults};
-ghost use Rattle.pd_kinds.specs.ThinSuper.{thin_fields};
+ghost use Rattle.pd_kinds.specs.ThinFormat.{thin_fields};
+ghost use Rattle.pd_answers.specs.Shrinks.{free_blocks};
 ghost use Rattle.pd_image.specs.Device.{IsAttached, OnlyReads};
-ghost use Rattle.pd_answers.specs.MovedPool.{free_blocks};
-ghost use Rattle.pd_changed.specs.Moving.{AreBelow, Ascend};
-ghost use Rattle.pd_smap.specs.Entries.{IsIndex, IsOverflow, index_from, place_in};
-ghost use Rattle.pd_smap.specs.Overflow.{overflow_reads};
-ghost use Rattle.pd_smap.specs.Steps.{bits_by};
 ghost use Rattle.pd_tree.specs.Below.{nodes_below};
 ghost use Rattle.pd_tree.specs.Cursor.{cursor_items, cursor_nodes};
+ghost use Rattle.pd_smap.specs.Overflow.{IsIndex, IsOverflow, index_from, place_in, overflow_reads};
+ghost use Rattle.pd_smap.specs.Steps.{bits_by};
+ghost use Rattle.pd_laws_changed.specs.KnownPool.{AreBelow, Ascend};
 ghost use Rattle.pd_shrink.specs.Failing.{CountsMeta};
-ghost use Rattle.pd_shrink.specs.Gathered.{Searched, standing, with_reads};
-ghost use Rattle.pd_shrink.specs.Unused.{unused_below};
+ghost use Rattle.pd_shrink.specs.Gathered.{Searched, standing, with_reads, unused_below};
 
-use crate::fault::ShrinkFault;
 use crate::gathering::gather_at;
+use crate::making::ShrinkFault;
 use pd_image::Device;
-use pd_kinds::{CheckFault, SmRoot, bitmaps_for};
-use pd_laws::faults_are_none_where_clean;
+use pd_kinds::{CheckFault, SmRoot, bitmaps_for, faults_are_none_where_clean};
 use pd_smap::{Overflow, index_trees_name_bitmaps, next_place, overflow_trees_hold_counts};
 use pd_tree::{
     Cursor, formats_have_trees, reached_trees_are_sound, superblocks_lead_to_reached_roots,
@@ -58,16 +55,19 @@ pub fn find_free<A: Device>(
     wanted: usize,
 ) -> Result<FreeBlocks, ShrinkFault>
     requires attached { IsAttached (A.state meta.old) }
-    ensures number { IfOk result (λ free. IfSome (A.state meta.old).held (λ image. (blocks : ℕ) → IsIndex image map.now.bitmap_root blocks → IsOverflow image map.now.overflow_root → end ≤ blocks
+    ensures number { IfOk result (λ free. IfSome (A.state meta.old).held (λ image. (blocks : ℕ)
+        → IsIndex image map.now.bitmap_root blocks → IsOverflow image map.now.overflow_root → end ≤ blocks
         → free.number ≡ length (unused_below image map.now end))) }
-    ensures first { IfOk result (λ free. IfSome (A.state meta.old).held (λ image. (blocks : ℕ) → IsIndex image map.now.bitmap_root blocks → IsOverflow image map.now.overflow_root → end ≤ blocks
+    ensures first { IfOk result (λ free. IfSome (A.state meta.old).held (λ image. (blocks : ℕ)
+        → IsIndex image map.now.bitmap_root blocks → IsOverflow image map.now.overflow_root → end ≤ blocks
         → free.first.items ≡ take wanted (unused_below image map.now end))) }
     ensures below { IfOk result (λ free. AreBelow end free.first.items) }
     ensures ascend { IfOk result (λ free. Ascend 0 free.first.items) }
     ensures few { IfOk result (λ free. length free.first.items ≡ min wanted free.number) }
     ensures most { IfOk result (λ free. free.number ≤ end) }
     ensures reads { IfSome (A.state meta.old).held (λ image. (A.state meta.new).reads ≤ (A.state meta.old).reads
-        + (length (nodes_below 16 image 63 map.now.bitmap_root) + bitmaps_for end + length (nodes_below 4 image 63 map.now.overflow_root))) }
+        + (length (nodes_below 16 image 63 map.now.bitmap_root)
+        + bitmaps_for end + length (nodes_below 4 image 63 map.now.overflow_root))) }
     ensures kept { OnlyReads (A.state meta.old) (A.state meta.new) }
     ensures faults { CountsMeta result (A.state meta.old).faults (A.state meta.new).faults }
 {
@@ -97,7 +97,8 @@ fn gather<A: Device>(
     requires attached { IsAttached (A.state meta.old) }
     requires room { free.old.number + end < 2 ^ 64 }
     ensures searched { OnOk result (Searched wanted (bits_by (λ image. place_in (cursor_items 16 index_from image index.old))) 0 end
-        (with_reads (λ image. length (cursor_nodes 16 image index.old) + bitmaps_for end) (standing (A.state meta.old) free.old overflow.old)) (standing (A.state meta.new) free.new overflow.new)) }
+        (with_reads (λ image. length (cursor_nodes 16 image index.old) + bitmaps_for end)
+        (standing (A.state meta.old) free.old overflow.old)) (standing (A.state meta.new) free.new overflow.new)) }
     ensures reads { IfSome (A.state meta.old).held (λ image. (A.state meta.new).reads ≤ (A.state meta.old).reads
         + (overflow_reads overflow.old image + (length (cursor_nodes 16 image index.old) + bitmaps_for end))) }
     ensures kept { OnlyReads (A.state meta.old) (A.state meta.new) }
@@ -119,8 +120,10 @@ fn gather<A: Device>(
 pub fn stored_free_blocks_are_free()
     ensures index { (image : List (List ℕ)) → faults Thin Counts image ≡ []
         → IsIndex image (thin_fields (block_at image 0)).data_map.bitmap_root (thin_fields (block_at image 0)).data_map.blocks }
-    ensures overflow { (image : List (List ℕ)) → faults Thin Counts image ≡ [] → IsOverflow image (thin_fields (block_at image 0)).data_map.overflow_root }
-    ensures free { (image : List (List ℕ)) (end : ℕ) → faults Thin Counts image ≡ [] → end ≤ (thin_fields (block_at image 0)).data_map.blocks
+    ensures overflow { (image : List (List ℕ)) → faults Thin Counts image ≡ []
+        → IsOverflow image (thin_fields (block_at image 0)).data_map.overflow_root }
+    ensures free { (image : List (List ℕ)) (end : ℕ)
+        → faults Thin Counts image ≡ [] → end ≤ (thin_fields (block_at image 0)).data_map.blocks
         → unused_below image (thin_fields (block_at image 0)).data_map end ≡ free_blocks image end }
 {
     faults_are_none_where_clean();

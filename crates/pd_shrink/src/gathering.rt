@@ -1,18 +1,16 @@
-//! The free data blocks of one bitmap, and of the overflow tree beside it.
+//! The free data blocks of one bitmap, and of the overflow tree beside it (`thin_shrink`).
 
 ghost use Rattle.std.specs.Prelude.{◌≡◌, ℕ, ◌+◌, ◌*◌, ◌-◌, ◌^◌, ◌<◌, ◌≤◌, [], ◌∷◌, Option, min, IfOk, IfSome, OnOk};
 ghost use Rattle.pd_kinds.specs.Bitmap.{two_bits_of};
 ghost use Rattle.pd_kinds.specs.Objects.{CountsFault};
 ghost use Rattle.pd_image.specs.Device.{IsAttached, OnlyReads};
 ghost use Rattle.pd_smap.specs.Overflow.{overflow_items, overflow_reads};
-ghost use Rattle.pd_smap.specs.OverflowLeft.{IsAhead, stored_by};
-ghost use Rattle.pd_smap.specs.Steps.{bits_at, bits_from};
+ghost use Rattle.pd_smap.specs.Steps.{IsAhead, stored_by, bits_at, bits_from};
 ghost use Rattle.pd_shrink.specs.Failing.{CountsMeta};
-ghost use Rattle.pd_shrink.specs.Gathered.{Gathers, Searched, standing, with_reads};
-ghost use Rattle.pd_shrink.specs.Unused.{is_zero};
+ghost use Rattle.pd_shrink.specs.Gathered.{Gathers, Searched, standing, with_reads, is_zero};
 
-use crate::fault::ShrinkFault;
 use crate::free::FreeBlocks;
+use crate::making::ShrinkFault;
 use pd_bitmap::{one_number, two_bits};
 use pd_image::{Device, Failed};
 use pd_kinds::{BITMAP_COUNTS, Block};
@@ -56,13 +54,16 @@ fn is_unused<A: Device>(
 ) -> Result<bool, Failed>
     requires attached { IsAttached (A.state meta.old) }
     requires entry { e < 16320 }
-    ensures unused { IfOk result (λ unused. IfSome (A.state meta.old).held (λ image. (over : ℕ → Option ℕ) → IsAhead b over (overflow_items overflow.old image)
+    ensures unused { IfOk result (λ unused. IfSome (A.state meta.old).held
+        (λ image. (over : ℕ → Option ℕ) → IsAhead b over (overflow_items overflow.old image)
         → unused ≡ is_zero (stored_by (two_bits_of bitmap.now.0 e) (over b)))) }
-    ensures ahead { OnOk result (IfSome (A.state meta.old).held (λ image. (over : ℕ → Option ℕ) → IsAhead b over (overflow_items overflow.old image)
+    ensures ahead { OnOk result (IfSome (A.state meta.old).held
+        (λ image. (over : ℕ → Option ℕ) → IsAhead b over (overflow_items overflow.old image)
         → IsAhead b over (overflow_items overflow.new image))) }
     ensures reads { OnOk result (IfSome (A.state meta.old).held (λ image.
         (A.state meta.new).reads + overflow_reads overflow.new image ≤ (A.state meta.old).reads + overflow_reads overflow.old image)) }
-    ensures reads_failed { IfSome (A.state meta.old).held (λ image. (A.state meta.new).reads ≤ (A.state meta.old).reads + overflow_reads overflow.old image) }
+    ensures reads_failed { IfSome (A.state meta.old).held
+        (λ image. (A.state meta.new).reads ≤ (A.state meta.old).reads + overflow_reads overflow.old image) }
     ensures kept { OnlyReads (A.state meta.old) (A.state meta.new) }
     ensures faults { CountsFault result (A.state meta.old).faults (A.state meta.new).faults }
 {
@@ -90,7 +91,8 @@ fn gather_entry<A: Device>(
     requires room { free.old.number < 2 ^ 64 - 1 }
     ensures searched { OnOk result (Searched wanted (bits_from base bitmap.now.0) (base + e) 1
         (standing (A.state meta.old) free.old overflow.old) (standing (A.state meta.new) free.new overflow.new)) }
-    ensures reads { IfSome (A.state meta.old).held (λ image. (A.state meta.new).reads ≤ (A.state meta.old).reads + overflow_reads overflow.old image) }
+    ensures reads { IfSome (A.state meta.old).held
+        (λ image. (A.state meta.new).reads ≤ (A.state meta.old).reads + overflow_reads overflow.old image) }
     ensures kept { OnlyReads (A.state meta.old) (A.state meta.new) }
     ensures faults { CountsMeta result (A.state meta.old).faults (A.state meta.new).faults }
 {
@@ -122,7 +124,8 @@ fn gather_each<A: Device>(
     requires room { free.old.number + len < 2 ^ 64 }
     ensures searched { OnOk result (Searched wanted (bits_from base bitmap.now.0) (base + from) len
         (standing (A.state meta.old) free.old overflow.old) (standing (A.state meta.new) free.new overflow.new)) }
-    ensures reads { IfSome (A.state meta.old).held (λ image. (A.state meta.new).reads ≤ (A.state meta.old).reads + overflow_reads overflow.old image) }
+    ensures reads { IfSome (A.state meta.old).held
+        (λ image. (A.state meta.new).reads ≤ (A.state meta.old).reads + overflow_reads overflow.old image) }
     ensures kept { OnlyReads (A.state meta.old) (A.state meta.new) }
     ensures faults { CountsMeta result (A.state meta.old).faults (A.state meta.new).faults }
 {
@@ -149,7 +152,8 @@ fn gather_group<A: Device>(
     requires room { free.old.number + 32 < 2 ^ 64 }
     ensures searched { OnOk result (Searched wanted (bits_from base bitmap.now.0) (base + 32 * g) 32
         (standing (A.state meta.old) free.old overflow.old) (standing (A.state meta.new) free.new overflow.new)) }
-    ensures reads { IfSome (A.state meta.old).held (λ image. (A.state meta.new).reads ≤ (A.state meta.old).reads + overflow_reads overflow.old image) }
+    ensures reads { IfSome (A.state meta.old).held
+        (λ image. (A.state meta.new).reads ≤ (A.state meta.old).reads + overflow_reads overflow.old image) }
     ensures kept { OnlyReads (A.state meta.old) (A.state meta.new) }
     ensures faults { CountsMeta result (A.state meta.old).faults (A.state meta.new).faults }
 {
@@ -190,7 +194,8 @@ fn gather_groups<A: Device>(
     requires room { free.old.number + 32 * groups < 2 ^ 64 }
     ensures searched { OnOk result (Searched wanted (bits_from base bitmap.now.0) base (32 * groups)
         (standing (A.state meta.old) free.old overflow.old) (standing (A.state meta.new) free.new overflow.new)) }
-    ensures reads { IfSome (A.state meta.old).held (λ image. (A.state meta.new).reads ≤ (A.state meta.old).reads + overflow_reads overflow.old image) }
+    ensures reads { IfSome (A.state meta.old).held
+        (λ image. (A.state meta.new).reads ≤ (A.state meta.old).reads + overflow_reads overflow.old image) }
     ensures kept { OnlyReads (A.state meta.old) (A.state meta.new) }
     ensures faults { CountsMeta result (A.state meta.old).faults (A.state meta.new).faults }
 {
@@ -216,7 +221,8 @@ fn gather_bitmap<A: Device>(
     requires room { free.old.number + len < 2 ^ 64 }
     ensures searched { OnOk result (Searched wanted (bits_from base bitmap.now.0) base len
         (standing (A.state meta.old) free.old overflow.old) (standing (A.state meta.new) free.new overflow.new)) }
-    ensures reads { IfSome (A.state meta.old).held (λ image. (A.state meta.new).reads ≤ (A.state meta.old).reads + overflow_reads overflow.old image) }
+    ensures reads { IfSome (A.state meta.old).held
+        (λ image. (A.state meta.new).reads ≤ (A.state meta.old).reads + overflow_reads overflow.old image) }
     ensures kept { OnlyReads (A.state meta.old) (A.state meta.new) }
     ensures faults { CountsMeta result (A.state meta.old).faults (A.state meta.new).faults }
 {
@@ -242,7 +248,8 @@ pub(crate) fn gather_at<A: Device>(
     requires room { free.old.number + min 16320 (blocks - 16320 * i) < 2 ^ 64 }
     ensures searched { OnOk result (Searched wanted (bits_at place i) (16320 * i) (min 16320 (blocks - 16320 * i))
         (with_reads (λ image. 1) (standing (A.state meta.old) free.old overflow.old)) (standing (A.state meta.new) free.new overflow.new)) }
-    ensures reads { IfSome (A.state meta.old).held (λ image. (A.state meta.new).reads ≤ (A.state meta.old).reads + (overflow_reads overflow.old image + 1)) }
+    ensures reads { IfSome (A.state meta.old).held
+        (λ image. (A.state meta.new).reads ≤ (A.state meta.old).reads + (overflow_reads overflow.old image + 1)) }
     ensures kept { OnlyReads (A.state meta.old) (A.state meta.new) }
     ensures faults { CountsMeta result (A.state meta.old).faults (A.state meta.new).faults }
 {

@@ -1,27 +1,27 @@
-//! A pool as it is held, without the leaves that its devices share or with them.
+//! A pool as it is held, without the leaves that its devices share or with them (`thin_shrink`).
 
 ghost use Rattle.std.specs.Prelude.{◌≡◌, true, false, IfOk, IfSome};
+ghost use Rattle.pd_answers.specs.Shrinks.{saved_whole};
 ghost use Rattle.pd_image.specs.Device.{IsAttached, IsWritable, KeepsPlace, OnlyReads};
-ghost use Rattle.pd_answers.specs.MovedShape.{saved_whole};
 ghost use Rattle.pd_restoring.specs.Made.{CountsMade, IsMade, ending_of};
 ghost use Rattle.pd_shrink.specs.Failing.{CountsMeta};
-ghost use Rattle.pd_shrink.specs.Kept.{IsKept, IsSoundKept, head_in, kept_content, kept_making, kept_pool, moved_in, own_runs_in, saved_in, shared_of};
+ghost use Rattle.pd_shrink.specs.Kept.{IsKept, IsSoundKept, head_in, kept_content, kept_making, kept_pool};
+ghost use Rattle.pd_shrink.specs.Kept.{moved_in, own_runs_in, saved_in, shared_of};
 ghost use Rattle.pd_shrink.specs.Making.{FitsDevice, IsSoundWith};
-ghost use Rattle.pd_shrink.specs.Moves.{moves_in};
-ghost use Rattle.pd_shrink.specs.Moving.{AreMovesOf};
+ghost use Rattle.pd_shrink.specs.Moves.{moves_in, AreMovesOf};
 
-use crate::fault::ShrinkFault;
+use crate::making::ShrinkFault;
 use crate::moves::MovedBlock;
 use crate::moving::move_pool;
 use crate::moving_shapes::move_shape;
 use pd_image::Device;
 use pd_kinds::ThinSuper;
 use pd_laid::sound_pool_is_saved;
+use pd_laws_shapes::sound_pools_save_their_shape;
+use pd_meaning_thin::PackedRuns;
 use pd_restore::{MadeFault, need_of_saved, need_of_shape, restore_made, restore_shape};
-use pd_runs::PackedRuns;
 use pd_salvage::{Salvage, SalvageFault, SavedHead, SavedShape, salvage};
 use pd_salvage_shapes::salvage_shape;
-use pd_saved_shapes::sound_pools_save_their_shape;
 use std::alloc::{AllocError, Global};
 
 /// A pool as it is held in memory, without its shared leaves or with them.

@@ -1,9 +1,7 @@
 //! The shrink of a thin pool, offline: the data blocks past its new end are moved into free ones below it, and new metadata
-//! is written.
+//! is written (`thin_shrink`).
 #![tactic(auto)]
 
-mod copying;
-mod fault;
 mod free;
 mod gathering;
 mod kept;
@@ -12,15 +10,12 @@ mod moves;
 mod moving;
 mod moving_shapes;
 mod parts;
-mod places;
 mod plan;
-mod room;
 mod sources;
 
-pub use copying::copy_moved;
-pub use fault::ShrinkFault;
 pub use free::{FreeBlocks, find_free, stored_free_blocks_are_free};
-pub use moves::{MovedBlock, pair_up};
+pub use making::ShrinkFault;
+pub use moves::{MovedBlock, copy_moved, pair_up};
 pub use moving::move_pool;
 pub use moving_shapes::move_shape;
 pub use plan::Shrink;

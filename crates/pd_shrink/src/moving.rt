@@ -1,23 +1,20 @@
-//! The pool in memory whose data blocks were moved.
+//! The pool in memory whose data blocks were moved (`thin_shrink`).
 
 ghost use Rattle.std.specs.Prelude.{◌≡◌, ◌-◌, ◌^◌, min, length, map, take, drop, sum_by, IfOk, OnOk};
 ghost use Rattle.std.specs.List.{AllByRecursion};
-ghost use Rattle.pd_answers.specs.MovedPool.{moved_mapping, moved_pool};
-ghost use Rattle.pd_spells.specs.ThinText.{mappings_of};
-ghost use Rattle.pd_thin_meaning.specs.Joined.{spelled};
-ghost use Rattle.pd_runs.specs.Places.{runs_from};
+ghost use Rattle.pd_grammar.specs.ThinText.{mappings_of};
+ghost use Rattle.pd_answers.specs.Shrinks.{moved_mapping, moved_pool};
+ghost use Rattle.pd_meaning_thin.specs.Runs.{spelled};
+ghost use Rattle.pd_meaning_thin.specs.Packed.{runs_from};
 ghost use Rattle.pd_salvage.specs.Gather.{mappings_of_runs, HasRuns, Takes};
 ghost use Rattle.pd_salvage.specs.Saved.{pool_of};
-ghost use Rattle.pd_shrink.specs.Moves.{moves_in};
-ghost use Rattle.pd_shrink.specs.Moving.{AddsPart, AreMoved, AreMovesFrom, AreMovesOf, FitsRun, head_to};
+ghost use Rattle.pd_shrink.specs.Moves.{moves_in, AddsPart, AreMoved, AreMovesFrom, AreMovesOf, FitsRun, head_to};
 
-use crate::moves::MovedBlock;
+use crate::moves::{MovedBlock, place_of};
 use crate::parts::Part;
-use crate::places::place_of;
-use pd_changed::moved_pool_is_lawful;
-use pd_runs::{PackedRuns, RunPlace};
+use pd_laws_changed::moved_pool_is_lawful;
+use pd_meaning_thin::{PackedRuns, Run, RunPlace};
 use pd_salvage::{Joining, Salvage, SavedHead};
-use pd_thin_meaning::Run;
 use std::alloc::{AllocError, Global};
 
 /// Parts and the runs of all of them, whose data blocks were moved.
@@ -94,7 +91,8 @@ fn move_part<T: Part>(
 ) -> Result<(), AllocError>
     requires ordered { AreMovesFrom (2 ^ 40) end (moves_in moves.now) }
     requires fits { AllByRecursion FitsRun (runs_from all.now place.old) }
-    ensures moved { OnOk result (AddsPart T.count T.says (moves_in moves.now) part.now (take (T.count part.now) (runs_from all.now place.old))
+    ensures moved { OnOk result
+        (AddsPart T.count T.says (moves_in moves.now) part.now (take (T.count part.now) (runs_from all.now place.old))
         moved.old.parts.items moved.old.runs moved.new.parts.items moved.new.runs) }
     ensures behind { OnOk result (runs_from all.now place.new ≡ drop (T.count part.now) (runs_from all.now place.old)) }
 {
@@ -117,7 +115,8 @@ fn move_runs(
 ) -> Result<(), AllocError>
     requires ordered { AreMovesFrom (2 ^ 40) end (moves_in moves.now) }
     requires fits { AllByRecursion FitsRun (runs_from all.now place.old) }
-    ensures moved { OnOk result (HasRuns runs.old runs.new (map (moved_mapping (moves_in moves.now)) (mappings_of_runs (take number (runs_from all.now place.old))))) }
+    ensures moved { OnOk result (HasRuns runs.old runs.new
+        (map (moved_mapping (moves_in moves.now)) (mappings_of_runs (take number (runs_from all.now place.old))))) }
     ensures behind { OnOk result (runs_from all.now place.new ≡ drop number (runs_from all.now place.old)) }
 {
     let mut joining = Joining { begun: None };
@@ -140,7 +139,8 @@ fn move_run(
 ) -> Result<(), AllocError>
     requires ordered { AreMovesFrom (2 ^ 40) end (moves_in moves.now) }
     requires fits { FitsRun run.now }
-    ensures { OnOk result (Takes (map (moved_mapping (moves_in moves.now)) (mappings_of (spelled run.now))) runs.old runs.new joining.old joining.new) }
+    ensures { OnOk result
+        (Takes (map (moved_mapping (moves_in moves.now)) (mappings_of (spelled run.now))) runs.old runs.new joining.old joining.new) }
 {
     let stays = staying(run, end);
     if stays > 0 {

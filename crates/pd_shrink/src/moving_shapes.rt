@@ -1,15 +1,14 @@
-//! The pool in memory whose data blocks were moved, with the leaves that its devices share.
+//! The pool in memory whose data blocks were moved, with the leaves that its devices share (`thin_shrink`).
 
 ghost use Rattle.std.specs.Prelude.{◌≡◌, IfOk};
 ghost use Rattle.pd_laid.specs.Shape.{pool_of};
-ghost use Rattle.pd_answers.specs.MovedShape.{moved_shape};
+ghost use Rattle.pd_answers.specs.Shrinks.{moved_shape};
 ghost use Rattle.pd_salvage.specs.SavedShape.{held_shape};
-ghost use Rattle.pd_shrink.specs.Moves.{moves_in};
-ghost use Rattle.pd_shrink.specs.Moving.{AreMovesOf};
+ghost use Rattle.pd_shrink.specs.Moves.{moves_in, AreMovesOf};
 
 use crate::moves::MovedBlock;
 use crate::moving::{head_to, move_all};
-use pd_changed::{moved_shapes_are_lawful, moved_shapes_mean_moved_pools};
+use pd_laws_changed::{moved_shapes_are_lawful, moved_shapes_mean_moved_pools};
 use pd_salvage::SavedShape;
 use std::alloc::{AllocError, Global};
 

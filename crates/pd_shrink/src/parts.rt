@@ -1,9 +1,9 @@
-//! The parts of a pool in memory that have runs: its devices, or its shared leaves and its pieces.
+//! The parts of a pool in memory that have runs: its devices, or its shared leaves and its pieces (`thin_shrink`).
 
 ghost use Rattle.std.specs.Prelude.{◌≡◌, ℕ, Option, IfSome};
 ghost use Rattle.pd_kinds.specs.Meaning.{ThinDevice};
 ghost use Rattle.pd_salvage.specs.SavedShape.{runs_of_piece};
-ghost use Rattle.pd_shrink.specs.Moving.{bare_device, entries_of_leaf, leaf_of_piece, runs_of_device, runs_of_leaf};
+ghost use Rattle.pd_shrink.specs.Moves.{bare_device, entries_of_leaf, leaf_of_piece, runs_of_device, runs_of_leaf};
 
 use pd_salvage::{PackedPiece, SavedDevice, SavedLeaf, SavedPiece};
 

@@ -1,17 +1,15 @@
-//! What a shrink is to do.
+//! What a shrink is to do (`thin_shrink`).
 
 ghost use Rattle.std.specs.Prelude.{◌≤◌};
 ghost use Rattle.std.specs.List.{AllByRecursion};
 ghost use Rattle.std.proofs.Props.{props};
-ghost use Rattle.pd_kinds.specs.Limits.{room_of};
+ghost use Rattle.pd_kinds.specs.Image.{room_of};
 ghost use Rattle.pd_shrink.specs.Kept.{kept_making, kept_pool};
 ghost use Rattle.pd_shrink.specs.Moves.{AreOnce, AreOnce-prop, IsAcross};
 
-use crate::copying::copy_moved;
-use crate::fault::ShrinkFault;
 use crate::kept::{Kept, head_of, move_kept, need_of_kept, read_kept, restore_kept};
-use crate::making::{find_moves, is_block_size_bad, read_first, sound_super};
-use crate::moves::MovedBlock;
+use crate::making::{ShrinkFault, find_moves, is_block_size_bad, read_first, sound_super};
+use crate::moves::{MovedBlock, copy_moved};
 use pd_image::{Device, Failed};
 use pd_kinds::{MAX_META_BLOCKS, SmRoot, ThinSuper};
 use pd_restore::MadeFault;
@@ -37,7 +35,7 @@ pub struct Shrink {
 }
 
 impl Shrink {
-    ghost use Rattle.std.specs.Prelude.{◌≡◌, ◌<◌, ◌≤◌, ℕ, Bool, true, false, List, [], None, IfOk, IfSome, OnOk, length, map};
+    ghost use Rattle.std.specs.Prelude.{◌≡◌, ◌<◌, ℕ, Bool, true, false, List, [], None, IfOk, IfSome, OnOk, length, map};
     ghost use Rattle.std.specs.List.{AllByRecursion};
     ghost use Rattle.pd_kinds.specs.declared.kind.Kind.TheVariants.{Thin};
     ghost use Rattle.pd_kinds.specs.declared.kind.Stage.TheVariants.{Counts};
@@ -45,15 +43,15 @@ impl Shrink {
     ghost use Rattle.pd_kinds.specs.Objects.{CountsFault};
     ghost use Rattle.pd_kinds.specs.Stages.{faults};
     ghost use Rattle.pd_image.specs.Device.{IsAttached, IsWritable, KeepsPlace, OnlyReads};
-    ghost use Rattle.pd_answers.specs.CachedView.{blocks_each};
-    ghost use Rattle.pd_answers.specs.MovedPool.{copy_of_move, data_after, sources};
+    ghost use Rattle.pd_answers.specs.Writebacks.{blocks_each};
+    ghost use Rattle.pd_answers.specs.Shrinks.{copy_of_move, data_after, sources};
     ghost use Rattle.pd_answers.specs.Shrinks.{ShrinkGround, lack_of, moves_of, pool_before};
     ghost use Rattle.pd_restoring.specs.Made.{IsMade};
     ghost use Rattle.pd_shrink.specs.Failing.{CountsPlanning, CountsWriting};
     ghost use Rattle.pd_shrink.specs.Kept.{kept_pool, moved_in, shared_of};
     ghost use Rattle.pd_shrink.specs.Making.{FitsDevice, Finishes, IsSoundPool, IsSoundWith};
     ghost use Rattle.pd_shrink.specs.Moves.{AreOnce, IsAcross, IsLeftKept, moves_in};
-    ghost use Rattle.pd_shrink.specs.Moving.{AreMovesOf};
+    ghost use Rattle.pd_shrink.specs.Moves.{AreMovesOf};
     ghost use Rattle.pd_shrink.specs.Planned.{IsPlanOf, Plans, content_after, ending_of_written};
 
     /// Makes the plan of the shrink of a pool to so many data blocks, with an output for its new metadata and its data device.
@@ -202,7 +200,8 @@ impl Shrink {
         requires moves { AreMovesOf (kept_pool kept.now) end (moves_in moves.items) }
         requires across { AllByRecursion (IsAcross each pool_blocks end) moves.items }
         requires once { AreOnce moves.items }
-        ensures { Finishes (shared_of kept.now) (moved_in kept.now end (moves_in moves.items)) moves.items each output_blocks pool_blocks result }
+        ensures { Finishes (shared_of kept.now) (moved_in kept.now end
+            (moves_in moves.items)) moves.items each output_blocks pool_blocks result }
     {
         let moved = move_kept(alloc, kept, end, moves.as_slice())?;
         let room = output_blocks.min(MAX_META_BLOCKS);
@@ -231,13 +230,17 @@ impl Shrink {
     pub fn copy<C: Device>(&self, pool: &mut C) -> Result<u64, Failed>
         requires writable { IsWritable (C.state pool.old) }
         requires blocks { (C.state pool.old).blocks ≡ self.now.pool_blocks }
-        ensures count { IfOk result (λ n. (is_shared : Bool) (basis : ShrinkGround is_shared) → IsPlanOf basis self.now → lack_of basis ≡ None → n ≡ length (sources (pool_before basis) basis.end)) }
-        ensures copied { OnOk result ((is_shared : Bool) (basis : ShrinkGround is_shared) (held : List (List ℕ)) → IsPlanOf basis self.now → HoldsSynced held (C.state pool.old)
+        ensures count { IfOk result (λ n. (is_shared : Bool) (basis : ShrinkGround is_shared)
+            → IsPlanOf basis self.now → lack_of basis ≡ None → n ≡ length (sources (pool_before basis) basis.end)) }
+        ensures copied { OnOk result ((is_shared : Bool) (basis : ShrinkGround is_shared) (held : List (List ℕ))
+            → IsPlanOf basis self.now → HoldsSynced held (C.state pool.old)
             → HoldsSynced (data_after (blocks_each (pool_before basis).block_size) (moves_of basis) held) (C.state pool.new)) }
 
         // Where nothing was unsynced, a crash at any moment leaves the data device as it was but for the targets.
-        ensures crash { (is_shared : Bool) (basis : ShrinkGround is_shared) (held : List (List ℕ)) → IsPlanOf basis self.now → HoldsSynced held (C.state pool.old)
-            → LeavesOnly (IsLeftKept (blocks_each (pool_before basis).block_size) (map copy_of_move (moves_of basis)) held) (C.state pool.old) (C.state pool.new) }
+        ensures crash { (is_shared : Bool) (basis : ShrinkGround is_shared) (held : List (List ℕ))
+            → IsPlanOf basis self.now → HoldsSynced held (C.state pool.old)
+            → LeavesOnly (IsLeftKept (blocks_each (pool_before basis).block_size) (map copy_of_move (moves_of basis)) held)
+            (C.state pool.old) (C.state pool.new) }
         ensures told { StillTells (C.state pool.old) (C.state pool.new) }
         ensures cold { moves_in self.now.moves.items ≡ [] → IsUntouched (C.state pool.old) (C.state pool.new) }
         ensures place { KeepsPlace (C.state pool.old) (C.state pool.new) }
@@ -257,7 +260,8 @@ impl Shrink {
     pub fn write<B: Device>(self, alloc: Global, output: &mut B) -> Result<(), ShrinkFault>
         requires writable { IsWritable (B.state output.old) }
         requires blocks { (B.state output.old).blocks ≡ self.output_blocks }
-        ensures made { (is_shared : Bool) (basis : ShrinkGround is_shared) → IsPlanOf basis self → IsMade (content_after basis) (ending_of_written result) (B.state output.old) (B.state output.new) }
+        ensures made { (is_shared : Bool) (basis : ShrinkGround is_shared) → IsPlanOf basis self
+            → IsMade (content_after basis) (ending_of_written result) (B.state output.old) (B.state output.new) }
         ensures place { KeepsPlace (B.state output.old) (B.state output.new) }
         ensures faults { CountsWriting result (B.state output.old).faults (B.state output.new).faults }
     {

@@ -1,14 +1,14 @@
-//! The data blocks that must be moved.
+//! The data blocks that must be moved (`thin_shrink`).
 
 ghost use Rattle.std.specs.Prelude.{◌≡◌, ◌+◌, ◌^◌, ◌<◌, ◌++◌, All, IfOk, OnOk};
 ghost use Rattle.std.specs.List.Sorted.{IsNonDecreasingBy, IsPermutation};
-ghost use Rattle.pd_answers.specs.MovedPool.{sources};
-ghost use Rattle.pd_thin_meaning.specs.declared.joined.Run.{Run as SavedRun};
+ghost use Rattle.pd_answers.specs.Shrinks.{sources};
+ghost use Rattle.pd_meaning_thin.specs.declared.joined.Run.{Run as SavedRun};
 ghost use Rattle.pd_shrink.specs.Kept.{kept_pool, leaf_runs_in};
-ghost use Rattle.pd_shrink.specs.Spans.{blocks_between, span_between, spans_past, union_from};
+ghost use Rattle.pd_shrink.specs.Making.{blocks_between, span_between, spans_past, union_from};
 
 use crate::kept::{Kept, head_of, own_runs_of};
-use pd_runs::PackedRuns;
+use pd_meaning_thin::PackedRuns;
 use std::alloc::{AllocError, Global};
 
 /// Data blocks in a row.

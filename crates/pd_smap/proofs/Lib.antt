@@ -1,9 +1,4 @@
-pub mod OverflowLeftLemmas
-pub mod ChunkLemmas
-pub mod StepLemmas
 pub mod CountLemmas
-pub mod GroupLemmas
-pub mod BitmapLemmas
-pub mod RiseLemmas
+pub mod OverflowLeftLemmas
 pub mod MapLemmas
-pub mod EntryLemmas
+pub mod StepLemmas

@@ -3,23 +3,20 @@ use Rattle.std.proofs.Common.{◌≡◌, ℕ, ◌+◌, ◌%◌, ◌/◌, ◌<◌
 use Rattle.std.specs.List.{slice_get, range_with_len}
 use Rattle.std.specs.Option.{unwrap_or, option_map, option_and_then}
 use Rattle.std.proofs.lemmas.Bool.{le-ltb, lt-ltb, eq-eqb, ne_eqb}
-use Rattle.pd_kinds.specs.declared.fault.Fault.{Fault}
-use Rattle.pd_kinds.specs.declared.fault.Space.TheVariants.{Meta, DataBlock}
+use Rattle.pd_kinds.specs.declared.rule.Fault.{Fault}
+use Rattle.pd_kinds.specs.declared.rule.Space.TheVariants.{Meta, DataBlock}
 use Rattle.pd_kinds.specs.Bitmap.{two_bits_of, index_block_at, bitmaps_for}
 use Rattle.pd_kinds.specs.Graph.{block_at}
 use Rattle.pd_kinds.specs.Node.{Entry}
-use Rattle.pd_kinds.specs.Report.{Reported, report_of}
+use Rattle.pd_kinds.specs.Rule.{Reported, report_of}
 use Rattle.pd_kinds.specs.Trees.{count_of_bits, keys_of, stored_in, stored_meta_in, stored_data_in, value_of_key}
+use Rattle.pd_kinds.proofs.ResultLemmas.{if_all, if_maps, if_then}
 use Rattle.pd_value.specs.declared.space_map.IndexEntry.{IndexEntry}
 use Rattle.pd_tree.specs.Below.{items_below}
-use Rattle.pd_smap.specs.OverflowLeft.{IsAhead, stored_by}
-use Rattle.pd_smap.specs.Entries.{IsOverflow, IsIndex, bitmap_entry, count_from, data_place, index_from, index_of, meta_place, overflow_of, place_in}
-use Rattle.pd_smap.specs.Counted.{faults_from}
-use Rattle.pd_smap.specs.Reports.{Adds, AddsFront}
-use Rattle.pd_smap.specs.Steps.{ComparisonState, ComparesImage, FindsFront, bits_by}
-use Rattle.pd_smap.proofs.OverflowLeftLemmas.{if_maps, if_then}
-use Rattle.pd_smap.proofs.RiseLemmas.{all_ahead}
-use Rattle.pd_smap.proofs.StepLemmas.{faults_same, if_all}
+use Rattle.pd_smap.specs.Steps.{IsAhead, stored_by, faults_from, Adds, AddsFront, ComparisonState, ComparesImage, FindsFront, bits_by}
+use Rattle.pd_smap.specs.Overflow.{IsOverflow, IsIndex, bitmap_entry, count_from, data_place, index_from, index_of, meta_place, overflow_of, place_in}
+use Rattle.pd_smap.proofs.OverflowLeftLemmas.{all_ahead}
+use Rattle.pd_smap.proofs.StepLemmas.{faults_same}
 
 -- an index block that was read names the bitmaps
 pub index_bits : (root blocks : ℕ) (index : List ℕ) (o : Option (List (List ℕ))) → IfSome o (λ image. slice_get image root ≡ Some index)

@@ -1,31 +1,22 @@
 -- How steps of a comparison join.
-use Rattle.std.proofs.Common.{◌≡◌, ℕ, zero, suc, ◌+◌, ◌-◌, ◌<◌, ◌≤◌, List, [], ◌∷◌, ◌++◌, length, take, Option, Some, None, IfSome, ap, sym, ◌∙◌, refl, subst, arith, append_assoc, append-nil, inl, inr, Result, Ok, Err, cond, nat_lt, Bool, false}
+use Rattle.std.proofs.Common.{◌≡◌, ℕ, zero, suc, ◌+◌, ◌-◌, ◌<◌, ◌≤◌, List, [], ◌++◌, length, take, Option, Some, IfSome, ap, sym, ◌∙◌, refl, subst, arith, append_assoc, append-nil, inl, inr, Result, Ok, Err, cond, nat_lt, Bool, false}
 use Rattle.std.specs.Result.{OnOk, OnErr}
 use Rattle.std.specs.List.{flat_map, range_with_len}
 use Rattle.std.proofs.lemmas.Grind.{flat_map-append}
 use Rattle.std.proofs.lemmas.List.{take-append-le, take_all}
 use Rattle.std.proofs.lemmas.Bool.{cases_lt, le-ltb, lt-ltb}
 use Rattle.std.proofs.Math.Seq.{take-append-add, take-length}
-use Rattle.pd_kinds.specs.declared.fault.Fault.{Fault}
-use Rattle.pd_kinds.specs.declared.fault.Space.{Space}
+use Rattle.pd_kinds.specs.declared.rule.Fault.{Fault}
+use Rattle.pd_kinds.specs.declared.rule.Space.{Space}
 use Rattle.pd_kinds.specs.Stages.{count_fault}
-use Rattle.pd_kinds.specs.Report.{Reported, report_of}
+use Rattle.pd_kinds.specs.Rule.{Reported, report_of}
 use Rattle.pd_kinds.specs.Objects.{DeviceState}
-use Rattle.pd_image.specs.Device.{IsAttached, OnlyReads}
+use Rattle.pd_kinds.proofs.NumberLemmas.{range_split}
+use Rattle.pd_kinds.proofs.ResultLemmas.{if_all, if_maps, if_then}
 use Rattle.pd_value.specs.declared.space_map.Count.{Count}
-use Rattle.pd_smap.specs.OverflowLeft.{IsAhead, stored_by}
-use Rattle.pd_smap.specs.Counted.{faults_from}
-use Rattle.pd_smap.specs.Reports.{Adds, AddsFront}
-use Rattle.pd_smap.specs.Steps.{ComparisonState, Compared, ComparesImage, FindsFront, ComparesRange, Stopped}
-use Rattle.pd_smap.proofs.OverflowLeftLemmas.{ahead_later, if_maps, if_then}
-
--- numbers in a row, cut in two
-pub range_split : (a m n : ℕ) → range_with_len a (m + n) ≡ range_with_len a m ++ range_with_len (a + m) n
-range_split a zero n = let e : a + 0 ≡ a = omega arith in let f : 0 + n ≡ n = omega arith in rw (e, f) refl
-range_split a (suc m) n =
-    let e : a + suc m ≡ (a + 1) + m = omega arith in
-    let f : suc m + n ≡ suc (m + n) = omega arith in
-    rw (e, f) (ap (λ (xs : List ℕ). a ∷ xs) (range_split (a + 1) m n))
+use Rattle.pd_image.specs.Device.{IsAttached, OnlyReads}
+use Rattle.pd_smap.specs.Steps.{IsAhead, stored_by, faults_from, Adds, AddsFront, ComparisonState, Compared, ComparesImage, FindsFront, ComparesRange, Stopped}
+use Rattle.pd_smap.proofs.OverflowLeftLemmas.{ahead_later}
 
 -- the faults of some blocks, and then of more
 pub faults_split : (space : Space) (refs : ℕ → ℕ) (stored : ℕ → Option ℕ) (low m n : ℕ)
@@ -130,10 +121,6 @@ stopped_more c low m n s t stopped = record {
         (adds_front_more _ _ s.report t.report (front.added over ahead));
   }) stopped.told;
 }
-
-pub if_all : {X : Type 0} → (o : Option X) (P : X → Type 0) → ((x : X) → P x) → IfSome o P
-if_all None P f = tt
-if_all (Some x) P f = f x
 
 -- nothing was done
 pub went_nowhere : (c : Compared) (low : ℕ) (s : ComparisonState) → ComparesRange c low 0 s s

@@ -1,7 +1,2 @@
-pub mod Entries
-pub mod OverflowLeft
-pub mod Counted
-pub mod Reports
 pub mod Steps
 pub mod Overflow
-pub mod Groups

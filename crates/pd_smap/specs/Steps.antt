@@ -1,16 +1,57 @@
 -- A comparison on its way: what was read, what was reported, and what is ahead.
-use Rattle.std.specs.Prelude.{◌≡◌, ℕ, ◌+◌, ◌*◌, ◌-◌, ◌/◌, ◌%◌, ◌≤◌, List, IfSome, Option}
-use Rattle.pd_kinds.specs.Objects.{DeviceState, Rose}
-use Rattle.pd_kinds.specs.declared.fault.Fault.{Fault}
-use Rattle.pd_kinds.specs.declared.fault.Space.{Space}
+-- The faults of a space map's counts.
+-- Runs of equal counts in a bitmap.
+-- What a report has after faults were added to it.
+-- The entries of an overflow tree that are still ahead, where blocks are looked at in their order.
+use Rattle.std.specs.Prelude.{ℕ, List, Option, ◌≡◌, ◌+◌, ◌*◌, ◌<◌, ◌++◌, take, ◌≤◌, nat_lt, if◌then◌else◌, [], ◌∷◌, Some, ◌-◌, ◌/◌, ◌%◌, IfSome}
+use Rattle.std.specs.List.{flat_map, range_with_len}
+use Rattle.std.specs.Option.{option_map}
+use Rattle.pd_kinds.specs.declared.rule.Fault.{Fault}
+use Rattle.pd_kinds.specs.declared.rule.Space.{Space}
+use Rattle.pd_kinds.specs.Stages.{count_fault}
 use Rattle.pd_kinds.specs.Bitmap.{two_bits_of}
+use Rattle.pd_kinds.specs.Rule.{Reported, report_of}
+use Rattle.pd_kinds.specs.Objects.{DeviceState, Rose}
 use Rattle.pd_kinds.specs.Graph.{block_at}
-use Rattle.pd_kinds.specs.Report.{Reported}
-use Rattle.pd_image.specs.Device.{OnlyReads}
 use Rattle.pd_value.specs.declared.space_map.Count.{Count}
-use Rattle.pd_smap.specs.OverflowLeft.{IsAhead, stored_by}
-use Rattle.pd_smap.specs.Counted.{faults_from}
-use Rattle.pd_smap.specs.Reports.{Adds, AddsFront}
+use Rattle.pd_image.specs.Device.{OnlyReads}
+use Rattle.pd_tree.specs.Search.{AreFrom, lookup}
+
+-- those of so many blocks from one on, by how often they are referred to and by what is stored
+unfoldable pub faults_from : Space → (ℕ → ℕ) → (ℕ → Option ℕ) → ℕ → ℕ → List Fault
+faults_from space refs stored low len = flat_map (λ b. count_fault space b (refs b) (stored b)) (range_with_len low len)
+
+-- the 32 counts of group g of a bitmap are the numbers of references of the blocks from this one on, which two bits hold
+pub record AreRefs (bitmap : List ℕ) (g : ℕ) (refs : ℕ → ℕ) (first : ℕ) : Type 0 where
+  pub held : (k : ℕ) → k < 32 → refs (first + k) < 3
+  pub counts : (k : ℕ) → k < 32 → two_bits_of bitmap (32 * g + k) ≡ refs (first + k)
+
+-- these faults were added
+abbrev pub Adds : List Fault → Reported → Reported → Type 0
+Adds faults old new = (before : List Fault) → old ≡ report_of before → new ≡ report_of (before ++ faults)
+
+-- a front of them was added
+abbrev pub AddsFront : List Fault → Reported → Reported → Type 0
+AddsFront faults old new =
+    (before : List Fault) → old ≡ report_of before → (n : ℕ) × (new ≡ report_of (before ++ take n faults))
+
+-- each key is above all before it
+abbrev pub KeysRise : List (ℕ × Count) → Type 0
+KeysRise [] = Unit {0}
+KeysRise (item ∷ items) = AreFrom (item.0 + 1) items × KeysRise items
+
+-- the count of a block among these entries
+abbrev pub found : ℕ → List (ℕ × Count) → Option ℕ
+found b items = option_map (λ (count : Count). count.0) (lookup b items)
+
+-- these entries are enough to find the counts from a block on
+pub record IsAhead (low : ℕ) (over : ℕ → Option ℕ) (items : List (ℕ × Count)) : Type 0 where
+  pub rise : KeysRise items
+  pub counts : (b : ℕ) → low ≤ b → found b items ≡ over b
+
+-- a stored count by its two bits, and by what the overflow tree has
+abbrev pub stored_by : ℕ → Option ℕ → Option ℕ
+stored_by bits over = if nat_lt bits 3 then Some bits else over
 
 -- where a comparison stands: the device, the report, and over an image the entries of the overflow tree that are
 -- ahead and how many reads are left

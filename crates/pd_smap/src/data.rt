@@ -1,7 +1,7 @@
 //! The counts of data blocks: the entries of a tree name the bitmaps.
 
-ghost use Rattle.std.specs.Prelude.{◌≡◌, ℕ, ◌+◌, ◌-◌, ◌^◌, ◌<◌, ◌≤◌, length, IfOk, IfSome, OnOk, OnErr};
-ghost use Rattle.pd_kinds.specs.declared.fault.Space.TheVariants.{DataBlock};
+ghost use Rattle.std.specs.Prelude.{◌≡◌, ℕ, ◌+◌, ◌^◌, ◌<◌, ◌≤◌, length, IfOk, IfSome, OnOk, OnErr};
+ghost use Rattle.pd_kinds.specs.declared.rule.Space.TheVariants.{DataBlock};
 ghost use Rattle.pd_kinds.specs.Objects.{CountsFault};
 ghost use Rattle.pd_kinds.specs.CheckFault.{CountsCheckFault};
 ghost use Rattle.pd_kinds.specs.Bitmap.{bitmaps_for};
@@ -10,15 +10,12 @@ ghost use Rattle.pd_image.specs.Device.{IsAttached, OnlyReads};
 ghost use Rattle.pd_count.specs.Counted.{count_of};
 ghost use Rattle.pd_tree.specs.Below.{nodes_below};
 ghost use Rattle.pd_tree.specs.Cursor.{cursor_items, cursor_nodes};
-ghost use Rattle.pd_smap.specs.Entries.{IsIndex, IsOverflow, index_from, index_of, overflow_of, place_in};
-ghost use Rattle.pd_smap.specs.Counted.{faults_from};
-ghost use Rattle.pd_smap.specs.Reports.{Adds, AddsFront};
-ghost use Rattle.pd_smap.specs.Overflow.{comparison_state};
-ghost use Rattle.pd_smap.specs.Steps.{ComparesRange, Stopped, bits_by, with_nodes};
+ghost use Rattle.pd_smap.specs.Overflow.{IsIndex, IsOverflow, index_from, index_of, overflow_of, place_in, comparison_state};
+ghost use Rattle.pd_smap.specs.Steps.{faults_from, Adds, AddsFront, ComparesRange, Stopped, bits_by, with_nodes};
 
 use crate::bitmaps::compare_at;
+use crate::counting::DataReferences;
 use crate::overflow::Overflow;
-use crate::references::DataReferences;
 use pd_count::Counts;
 use pd_image::{Device, Failed};
 use pd_kinds::{CheckFault, Report, SmRoot, bitmaps_for};
@@ -45,13 +42,18 @@ pub fn compare_data<D: Device>(
     requires attached { IsAttached (D.state dev.old) }
     requires number { root.now.blocks ≡ counts.now.size }
     requires room { report.old.total + root.now.blocks < 2 ^ 64 }
-    ensures added { OnOk result (IfSome (D.state dev.old).held (λ image. IsOverflow image root.now.overflow_root → IsIndex image root.now.bitmap_root root.now.blocks
-        → Adds (faults_from DataBlock (count_of counts.now) (stored_data_in image (index_of image root.now.bitmap_root) (overflow_of image root.now.overflow_root)) 0 root.now.blocks) report.old report.new)) }
-    ensures front { OnErr result (IfSome (D.state dev.old).held (λ image. IsOverflow image root.now.overflow_root → IsIndex image root.now.bitmap_root root.now.blocks
-        → AddsFront (faults_from DataBlock (count_of counts.now) (stored_data_in image (index_of image root.now.bitmap_root) (overflow_of image root.now.overflow_root)) 0 root.now.blocks) report.old report.new)) }
+    ensures added { OnOk result (IfSome (D.state dev.old).held
+        (λ image. IsOverflow image root.now.overflow_root → IsIndex image root.now.bitmap_root root.now.blocks
+        → Adds (faults_from DataBlock (count_of counts.now) (stored_data_in image (index_of image root.now.bitmap_root)
+        (overflow_of image root.now.overflow_root)) 0 root.now.blocks) report.old report.new)) }
+    ensures front { OnErr result (IfSome (D.state dev.old).held
+        (λ image. IsOverflow image root.now.overflow_root → IsIndex image root.now.bitmap_root root.now.blocks
+        → AddsFront (faults_from DataBlock (count_of counts.now) (stored_data_in image (index_of image root.now.bitmap_root)
+        (overflow_of image root.now.overflow_root)) 0 root.now.blocks) report.old report.new)) }
     ensures total { report.new.total ≤ report.old.total + root.now.blocks }
     ensures reads { IfSome (D.state dev.old).held (λ image. (D.state dev.new).reads ≤ (D.state dev.old).reads
-        + (length (nodes_below 16 image 63 root.now.bitmap_root) + bitmaps_for root.now.blocks + length (nodes_below 4 image 63 root.now.overflow_root))) }
+        + (length (nodes_below 16 image 63 root.now.bitmap_root)
+        + bitmaps_for root.now.blocks + length (nodes_below 4 image 63 root.now.overflow_root))) }
     ensures kept { OnlyReads (D.state dev.old) (D.state dev.new) }
     ensures faults { CountsCheckFault result (D.state dev.old).faults (D.state dev.new).faults }
 {
@@ -78,10 +80,22 @@ fn compare_listed<D: Device>(
     requires attached { IsAttached (D.state dev.old) }
     requires number { blocks ≡ counts.now.size }
     requires room { report.old.total + blocks < 2 ^ 64 }
-    ensures went { OnOk result (ComparesRange (record { space = DataBlock; refs = count_of counts.now; bits = bits_by (λ image. place_in (cursor_items 16 index_from image index.old)) }) 0 blocks
-        (with_nodes (λ image. length (cursor_nodes 16 image index.old) + bitmaps_for blocks) (comparison_state (D.state dev.old) overflow.old report.old)) (comparison_state (D.state dev.new) overflow.new report.new)) }
-    ensures stopped { OnErr result (Stopped (record { space = DataBlock; refs = count_of counts.now; bits = bits_by (λ image. place_in (cursor_items 16 index_from image index.old)) }) 0 blocks
-        (with_nodes (λ image. length (cursor_nodes 16 image index.old) + bitmaps_for blocks) (comparison_state (D.state dev.old) overflow.old report.old)) (comparison_state (D.state dev.new) overflow.new report.new)) }
+    ensures went { OnOk result (ComparesRange (record {
+      space = DataBlock;
+      refs = count_of counts.now;
+      bits = bits_by
+          (λ image. place_in (cursor_items 16 index_from image index.old));
+    }) 0 blocks
+        (with_nodes (λ image. length (cursor_nodes 16 image index.old) + bitmaps_for blocks)
+        (comparison_state (D.state dev.old) overflow.old report.old)) (comparison_state (D.state dev.new) overflow.new report.new)) }
+    ensures stopped { OnErr result (Stopped (record {
+      space = DataBlock;
+      refs = count_of counts.now;
+      bits = bits_by
+          (λ image. place_in (cursor_items 16 index_from image index.old));
+    }) 0 blocks
+        (with_nodes (λ image. length (cursor_nodes 16 image index.old) + bitmaps_for blocks)
+        (comparison_state (D.state dev.old) overflow.old report.old)) (comparison_state (D.state dev.new) overflow.new report.new)) }
 {
     let bitmaps = bitmaps_for(blocks);
     let refs = DataReferences(counts);
@@ -95,12 +109,15 @@ fn compare_listed<D: Device>(
 /// The place of the next bitmap, which is outside of every device where no entry is left.
 pub fn next_place<D: Device>(dev: &mut D, index: &mut Cursor<IndexEntry>) -> Result<u64, Failed>
     requires attached { IsAttached (D.state dev.old) }
-    ensures first { IfOk result (λ place. IfSome (D.state dev.old).held (λ image. place_in (cursor_items 16 index_from image index.old) 0 ≡ place)) }
+    ensures first { IfOk result (λ place. IfSome (D.state dev.old).held
+        (λ image. place_in (cursor_items 16 index_from image index.old) 0 ≡ place)) }
     ensures rest { OnOk result (IfSome (D.state dev.old).held (λ image. (i : ℕ)
         → place_in (cursor_items 16 index_from image index.old) (i + 1) ≡ place_in (cursor_items 16 index_from image index.new) i)) }
     ensures reads { OnOk result (IfSome (D.state dev.old).held (λ image.
-        (D.state dev.new).reads + length (cursor_nodes 16 image index.new) ≤ (D.state dev.old).reads + length (cursor_nodes 16 image index.old))) }
-    ensures reads_failed { IfSome (D.state dev.old).held (λ image. (D.state dev.new).reads ≤ (D.state dev.old).reads + length (cursor_nodes 16 image index.old)) }
+        (D.state dev.new).reads + length (cursor_nodes 16 image index.new)
+        ≤ (D.state dev.old).reads + length (cursor_nodes 16 image index.old))) }
+    ensures reads_failed { IfSome (D.state dev.old).held
+        (λ image. (D.state dev.new).reads ≤ (D.state dev.old).reads + length (cursor_nodes 16 image index.old)) }
     ensures kept { OnlyReads (D.state dev.old) (D.state dev.new) }
     ensures faults { CountsFault result (D.state dev.old).faults (D.state dev.new).faults }
 {

@@ -5,17 +5,13 @@
 mod bitmaps;
 mod counting;
 mod data;
-mod groups;
 mod laws;
 mod meta;
 mod overflow;
-mod references;
-mod stored;
 
 pub use bitmaps::read_bitmap;
 pub use data::{compare_data, next_place};
 pub use laws::{index_trees_name_bitmaps, overflow_trees_hold_counts};
 pub use meta::compare_meta;
-pub use overflow::Overflow;
+pub use overflow::{Overflow, stored_meta};
 pub use pd_kinds::CheckFault;
-pub use stored::stored_meta;

@@ -1,23 +1,20 @@
 //! The counts of metadata blocks: an index block names the bitmaps.
 
-ghost use Rattle.std.specs.Prelude.{◌≡◌, ◌+◌, ◌-◌, ◌^◌, ◌<◌, ◌≤◌, length, IfSome, OnOk, OnErr};
+ghost use Rattle.std.specs.Prelude.{◌≡◌, ◌+◌, ◌^◌, ◌<◌, ◌≤◌, length, IfSome, OnOk, OnErr};
 ghost use Rattle.pd_kinds.specs.declared.limits.TheConstants.{MAX_META_BLOCKS};
-ghost use Rattle.pd_kinds.specs.declared.fault.Space.TheVariants.{Meta};
+ghost use Rattle.pd_kinds.specs.declared.rule.Space.TheVariants.{Meta};
 ghost use Rattle.pd_kinds.specs.CheckFault.{CountsCheckFault};
 ghost use Rattle.pd_kinds.specs.Bitmap.{bitmaps_for, index_block_at};
 ghost use Rattle.pd_kinds.specs.Trees.{stored_meta_in};
 ghost use Rattle.pd_image.specs.Device.{IsAttached, OnlyReads};
 ghost use Rattle.pd_graph.specs.Audit.{blocks_of, count_at};
 ghost use Rattle.pd_tree.specs.Below.{nodes_below};
-ghost use Rattle.pd_smap.specs.Entries.{IsOverflow, meta_place, overflow_of};
-ghost use Rattle.pd_smap.specs.Counted.{faults_from};
-ghost use Rattle.pd_smap.specs.Reports.{Adds, AddsFront};
-ghost use Rattle.pd_smap.specs.Overflow.{comparison_state};
-ghost use Rattle.pd_smap.specs.Steps.{ComparesRange, Stopped, bits_by, with_reads};
+ghost use Rattle.pd_smap.specs.Overflow.{IsOverflow, meta_place, overflow_of, comparison_state};
+ghost use Rattle.pd_smap.specs.Steps.{faults_from, Adds, AddsFront, ComparesRange, Stopped, bits_by, with_reads};
 
 use crate::bitmaps::compare_at;
+use crate::counting::MetaReferences;
 use crate::overflow::Overflow;
-use crate::references::MetaReferences;
 use pd_bitmap::index_entry;
 use pd_graph::Audit;
 use pd_image::{Device, Failed};
@@ -46,12 +43,15 @@ pub fn compare_meta<D: Device>(
     requires room { report.old.total + root.now.blocks < 2 ^ 64 }
     requires index { root.now.bitmap_root < (D.state dev.old).blocks }
     ensures added { OnOk result (IfSome (D.state dev.old).held (λ image. IsOverflow image root.now.overflow_root
-        → Adds (faults_from Meta (count_at audit.now) (stored_meta_in image root.now.bitmap_root (overflow_of image root.now.overflow_root)) 0 root.now.blocks) report.old report.new)) }
+        → Adds (faults_from Meta (count_at audit.now)
+        (stored_meta_in image root.now.bitmap_root (overflow_of image root.now.overflow_root)) 0 root.now.blocks) report.old report.new)) }
     ensures front { OnErr result (IfSome (D.state dev.old).held (λ image. IsOverflow image root.now.overflow_root
-        → AddsFront (faults_from Meta (count_at audit.now) (stored_meta_in image root.now.bitmap_root (overflow_of image root.now.overflow_root)) 0 root.now.blocks) report.old report.new)) }
+        → AddsFront (faults_from Meta (count_at audit.now)
+        (stored_meta_in image root.now.bitmap_root (overflow_of image root.now.overflow_root)) 0 root.now.blocks) report.old report.new)) }
     ensures total { report.new.total ≤ report.old.total + root.now.blocks }
     ensures reads { IfSome (D.state dev.old).held (λ image.
-        (D.state dev.new).reads ≤ (D.state dev.old).reads + (1 + bitmaps_for root.now.blocks + length (nodes_below 4 image 63 root.now.overflow_root))) }
+        (D.state dev.new).reads ≤ (D.state dev.old).reads
+        + (1 + bitmaps_for root.now.blocks + length (nodes_below 4 image 63 root.now.overflow_root))) }
     ensures kept { OnlyReads (D.state dev.old) (D.state dev.new) }
     ensures faults { CountsCheckFault result (D.state dev.old).faults (D.state dev.new).faults }
 {
@@ -75,10 +75,14 @@ fn compare_index<D: Device>(
     requires few { root.now.blocks ≤ MAX_META_BLOCKS }
     requires room { report.old.total + root.now.blocks < 2 ^ 64 }
     requires index { root.now.bitmap_root < (D.state dev.old).blocks }
-    ensures went { OnOk result (ComparesRange (record { space = Meta; refs = count_at audit.now; bits = bits_by (meta_place root.now.bitmap_root) }) 0 root.now.blocks
-        (with_reads (1 + bitmaps_for root.now.blocks) (comparison_state (D.state dev.old) overflow.old report.old)) (comparison_state (D.state dev.new) overflow.new report.new)) }
-    ensures stopped { OnErr result (Stopped (record { space = Meta; refs = count_at audit.now; bits = bits_by (meta_place root.now.bitmap_root) }) 0 root.now.blocks
-        (with_reads (1 + bitmaps_for root.now.blocks) (comparison_state (D.state dev.old) overflow.old report.old)) (comparison_state (D.state dev.new) overflow.new report.new)) }
+    ensures went { OnOk result (ComparesRange
+        (record { space = Meta; refs = count_at audit.now; bits = bits_by (meta_place root.now.bitmap_root) }) 0 root.now.blocks
+        (with_reads (1 + bitmaps_for root.now.blocks) (comparison_state (D.state dev.old) overflow.old report.old))
+        (comparison_state (D.state dev.new) overflow.new report.new)) }
+    ensures stopped { OnErr result
+        (Stopped (record { space = Meta; refs = count_at audit.now; bits = bits_by (meta_place root.now.bitmap_root) }) 0 root.now.blocks
+        (with_reads (1 + bitmaps_for root.now.blocks) (comparison_state (D.state dev.old) overflow.old report.old))
+        (comparison_state (D.state dev.new) overflow.new report.new)) }
 {
     let mut index = Block::zeros();
     dev.read(root.bitmap_root, &mut index)?;
@@ -98,10 +102,14 @@ fn compare_indexed<D: Device>(
     requires number { blocks ≡ blocks_of audit.now }
     requires few { blocks ≤ MAX_META_BLOCKS }
     requires room { report.old.total + blocks < 2 ^ 64 }
-    ensures went { OnOk result (ComparesRange (record { space = Meta; refs = count_at audit.now; bits = bits_by (λ image. index_block_at index.now.0) }) 0 blocks
-        (with_reads (bitmaps_for blocks) (comparison_state (D.state dev.old) overflow.old report.old)) (comparison_state (D.state dev.new) overflow.new report.new)) }
-    ensures stopped { OnErr result (Stopped (record { space = Meta; refs = count_at audit.now; bits = bits_by (λ image. index_block_at index.now.0) }) 0 blocks
-        (with_reads (bitmaps_for blocks) (comparison_state (D.state dev.old) overflow.old report.old)) (comparison_state (D.state dev.new) overflow.new report.new)) }
+    ensures went { OnOk result
+        (ComparesRange (record { space = Meta; refs = count_at audit.now; bits = bits_by (λ image. index_block_at index.now.0) }) 0 blocks
+        (with_reads (bitmaps_for blocks) (comparison_state (D.state dev.old) overflow.old report.old))
+        (comparison_state (D.state dev.new) overflow.new report.new)) }
+    ensures stopped { OnErr result
+        (Stopped (record { space = Meta; refs = count_at audit.now; bits = bits_by (λ image. index_block_at index.now.0) }) 0 blocks
+        (with_reads (bitmaps_for blocks) (comparison_state (D.state dev.old) overflow.old report.old))
+        (comparison_state (D.state dev.new) overflow.new report.new)) }
 {
     let bitmaps = bitmaps_for(blocks) as usize;
     let refs = MetaReferences(audit);

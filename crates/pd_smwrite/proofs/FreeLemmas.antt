@@ -1,15 +1,47 @@
 -- How many of the blocks that a bitmap covers are free.
-use Rattle.std.proofs.Common.{◌≡◌, inl, inr, ℕ, zero, suc, ◌+◌, ◌-◌, ◌*◌, ◌<◌, ◌≤◌, min, Bool, not, ◌&&◌, nat_eq, nat_lt, cond, List, length, take, refl, sym, ◌∙◌, ap, ap₂, arith, eq-eqb}
+use Rattle.std.proofs.Common.{◌≡◌, ℕ, zero, suc, ◌+◌, ◌<◌, ◌≤◌, Bool, true, cond, List, [], ◌∷◌, ◌++◌, length, get_or, refl, sym, ◌∙◌, ap, ap₂, arith, inl, inr, ◌-◌, ◌*◌, min, not, ◌&&◌, nat_eq, nat_lt, take, eq-eqb}
 use Rattle.std.specs.List.{count_by, range_with_len}
+use Rattle.std.proofs.lemmas.List.Sums.{sum_by-append, sum_by-cons, count_by-le-length}
 use Rattle.std.proofs.lemmas.Bool.{cases_Bool, cases_lt, lt-ltb, le-ltb}
 use Rattle.std.proofs.lemmas.List.{get_or-take, length-take-le}
 use Rattle.std.proofs.lemmas.List.FromFn.{length-range_with_len}
-use Rattle.std.proofs.lemmas.List.Sums.{count_by-le-length}
+use Rattle.pd_kinds.proofs.NumberLemmas.{range_split}
 use Rattle.pd_kinds.specs.Bitmap.{bitmaps_for}
-use Rattle.pd_laid.specs.Map.{free_in}
+use Rattle.pd_laid.specs.Laid.{free_in}
+use Rattle.pd_count.proofs.EntryLemmas.{one_if}
 use Rattle.pd_count.specs.Counted.{Counted, count_of, IsChunk, IsUncounted}
 use Rattle.pd_smwrite.specs.Map.{allocated_of}
-use Rattle.pd_smwrite.proofs.RangeLemmas.{one_if, count_first, count_on, count_all, count_placed}
+
+-- Numbers in a row, and how many of them pass a test.
+
+-- one number more
+pub range_more : (n : ℕ) → range_with_len 0 (n + 1) ≡ range_with_len 0 n ++ n ∷ []
+range_more n = let e : 0 + n ≡ n = omega arith in range_split 0 n 1 ∙ ap (λ (m : ℕ). range_with_len 0 n ++ m ∷ []) e
+
+-- the first number of a row
+pub count_first : (p : ℕ → Bool) (a n : ℕ) → count_by p (range_with_len a (suc n)) ≡ cond (p a) 1 0 + count_by p (range_with_len (a + 1) n)
+count_first p a n = sum_by-cons (λ x. cond (p x) 1 0) a (range_with_len (a + 1) n)
+
+pub count_on : (p : ℕ → Bool) (a m n : ℕ) → count_by p (range_with_len a (m + n)) ≡ count_by p (range_with_len a m) + count_by p (range_with_len (a + m) n)
+count_on p a m n = ap (count_by p) (range_split a m n) ∙ sum_by-append (λ x. cond (p x) 1 0) (range_with_len a m) (range_with_len (a + m) n)
+
+-- where all pass
+pub count_all : (p : ℕ → Bool) (a n : ℕ) → ((k : ℕ) → a ≤ k → k < a + n → p k ≡ true) → count_by p (range_with_len a n) ≡ n
+count_all p a zero all = refl
+count_all p a (suc n) all =
+    let first : one_if (p a) ≡ 1 = ap one_if (all a (omega arith) (omega arith)) in
+    let rest = count_all p (a + 1) n (λ k low high. all k (omega arith) (omega arith)) in
+    omega (arith, first, rest, count_first p a n)
+
+-- a list's elements by their places
+pub count_placed : (p : ℕ → Bool) (f : ℕ → ℕ) (a : ℕ) (xs : List ℕ) → ((k : ℕ) → k < length xs → get_or xs k 0 ≡ f (a + k))
+    → count_by p xs ≡ count_by (λ b. p (f b)) (range_with_len a (length xs))
+count_placed p f a [] same = refl
+count_placed p f a (x ∷ xs) same =
+    let here : x ≡ f a = same 0 (omega arith) ∙ ap f (omega arith) in
+    let rest = count_placed p f (a + 1) xs (λ k less. same (suc k) (omega arith) ∙ ap f (omega arith)) in
+    sum_by-cons (λ y. cond (p y) 1 0) x xs
+    ∙ (ap₂ (λ (t : Bool) (n : ℕ). cond t 1 0 + n) (ap p here) rest ∙ sym (count_first (λ b. p (f b)) a (length xs)))
 
 -- a test of the numbers below n alone
 below_only : (z : ℕ → Bool) (n s a m : ℕ)

@@ -3,9 +3,9 @@ use Rattle.std.proofs.Common.{◌≡◌, ◌⊎◌, inl, inr, ⊎_elim, ℕ, ◌
 use Rattle.std.specs.List.{range_with_len}
 use Rattle.std.proofs.lemmas.Bool.{cases_lt}
 use Rattle.std.proofs.lemmas.List.{append_assoc, append-nil}
+use Rattle.pd_kinds.proofs.NumberLemmas.{range_split}
 use Rattle.pd_count.specs.Counted.{Counted, count_of, HasCounted}
-use Rattle.pd_smwrite.specs.Own.{CountsOwn}
-use Rattle.pd_laid.proofs.Rows.{range_on}
+use Rattle.pd_smwrite.specs.Map.{CountsOwn}
 
 pub own_none : (place : ℕ) (counts : Counted) → CountsOwn place 0 counts counts
 own_none place counts = record {
@@ -27,7 +27,7 @@ own_then place m n {old} {mid} {new} first second = record {
       (λ behind. second.others b (inr (omega arith)) ∙ first.others b (inr (omega arith)))
       outside;
   listed = λ named counted. subst (HasCounted new)
-      (append_assoc named (range_with_len place m) (range_with_len (place + m) n) ∙ ap (λ (row : List ℕ). named ++ row) (sym (range_on place m n)))
+      (append_assoc named (range_with_len place m) (range_with_len (place + m) n) ∙ ap (λ (row : List ℕ). named ++ row) (sym (range_split place m n)))
       (second.listed (named ++ range_with_len place m) (first.listed named counted));
 }
 

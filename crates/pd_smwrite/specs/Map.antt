@@ -1,11 +1,12 @@
 -- The blocks of a space map from a place on, by the counts that it stores.
-use Rattle.std.specs.Prelude.{ℕ, ◌+◌, ◌*◌, ◌==◌, not, List, ◌∷◌, ◌++◌, length, map}
+-- The blocks that a map counts as its own.
+use Rattle.std.specs.Prelude.{ℕ, ◌+◌, ◌*◌, ◌==◌, not, List, ◌∷◌, ◌++◌, length, map, ◌≡◌, ◌⊎◌, ◌<◌, ◌≤◌}
 use Rattle.std.specs.List.{count_by, range_with_len}
 use Rattle.pd_kinds.specs.Bitmap.{bitmap_salt, index_salt, placed_block, unsealed_index, bitmaps_for}
-use Rattle.pd_kinds.specs.declared.map_root.SmRoot.{SmRoot}
-use Rattle.pd_spells.specs.Need.{need_tree}
-use Rattle.pd_laid.specs.Tree.{blocks_from, tree_blocks, tree_root}
-use Rattle.pd_laid.specs.Map.{bitmap_of, index_entry_of, index_items, overflow_items}
+use Rattle.pd_kinds.specs.declared.superblocks.SmRoot.{SmRoot}
+use Rattle.pd_grammar.specs.Need.{need_tree}
+use Rattle.pd_laid.specs.Laid.{blocks_from, tree_blocks, tree_root, bitmap_of, index_entry_of, index_items, overflow_items}
+use Rattle.pd_count.specs.Counted.{Counted, count_of, HasCounted}
 
 -- bitmap i as it is written
 abbrev pub written_bitmap : (ℕ → ℕ) → ℕ → ℕ → List ℕ
@@ -79,3 +80,14 @@ meta_map_root counts n place = record {
   bitmap_root = place;
   overflow_root = tree_root 4 (meta_overflow_at n place) (overflow_items counts n);
 }
+
+-- none of so many blocks from a place on was counted
+abbrev pub HasNone : Counted → ℕ → ℕ → Type 0
+HasNone counts place number = (b : ℕ) → place ≤ b → b < place + number → count_of counts b ≡ 0
+
+-- so many blocks from a place on, of which none was counted, were counted once each, and no other one
+pub record CountsOwn (place number : ℕ) (old new : Counted) : Type 0 where
+  pub size : new.size ≡ old.size
+  pub own : (b : ℕ) → place ≤ b → b < place + number → count_of new b ≡ 1
+  pub others : (b : ℕ) → (b < place) ⊎ (place + number ≤ b) → count_of new b ≡ count_of old b
+  pub listed : (named : List ℕ) → HasCounted old named → HasCounted new (named ++ range_with_len place number)

@@ -2,17 +2,14 @@
 
 ghost use Rattle.std.specs.Prelude.{◌≡◌, ◌+◌, ◌≤◌, IfOk, OnOk};
 ghost use Rattle.pd_image.specs.Device.{IsWritable};
-ghost use Rattle.pd_draft.specs.Closed.{IsClosed, StaysClosed};
-ghost use Rattle.pd_draft.specs.Placed.{Wrote};
+ghost use Rattle.pd_draft.specs.Closed.{IsClosed, StaysClosed, Wrote};
 ghost use Rattle.pd_draft.specs.DraftState.{draft_state};
 ghost use Rattle.pd_count.specs.Counted.{count_of};
-ghost use Rattle.pd_build.specs.Causes.{CountsBuildFault};
+ghost use Rattle.pd_build.specs.Building.{CountsBuildFault};
 ghost use Rattle.pd_smwrite.specs.Map.{data_map_blocks, data_map_need, data_map_root};
 
-use crate::bitmaps::write_bitmaps;
-use crate::free::allocated;
-use crate::index::write_index_tree;
-use crate::overflow::write_overflow;
+use crate::bitmaps::{write_bitmaps, write_overflow};
+use crate::index::{allocated, write_index_tree};
 use pd_build::BuildFault;
 use pd_count::Counts;
 use pd_draft::Draft;
@@ -30,7 +27,8 @@ pub fn write_data_map<D: Device>(
     requires room { draft.old.next + data_map_need (count_of counts.now) counts.now.size ≤ (draft_state draft.old).device.blocks }
     requires closed { IsClosed (draft_state draft.old).device }
     ensures same_reference { draft.new.dev.ghost_name ≡ draft.old.dev.ghost_name }
-    ensures wrote { OnOk result (Wrote (data_map_blocks (count_of counts.now) counts.now.size draft.old.next) (draft_state draft.old) (draft_state draft.new)) }
+    ensures wrote { OnOk result (Wrote (data_map_blocks (count_of counts.now) counts.now.size draft.old.next) (draft_state draft.old)
+        (draft_state draft.new)) }
     ensures root { IfOk result (λ root. root ≡ data_map_root (count_of counts.now) counts.now.size draft.old.next) }
     ensures closed { StaysClosed (draft_state draft.old).device (draft_state draft.new).device }
     ensures faults { CountsBuildFault result (draft_state draft.old).device.faults (draft_state draft.new).device.faults }

@@ -1,24 +1,21 @@
 //! The index of a map's bitmaps: a tree for data, a block for metadata.
 
-ghost use Rattle.std.specs.Prelude.{◌≡◌, ◌+◌, ◌<◌, ◌≤◌, ◌^◌, IfOk, OnOk, map, true};
+ghost use Rattle.std.specs.Prelude.{◌≡◌, ◌+◌, ◌<◌, ◌≤◌, ◌^◌, IfOk, OnOk, map, true, ◌*◌};
 ghost use Rattle.std.specs.List.{range_with_len};
-ghost use Rattle.pd_image.specs.Device.{IsWritable};
 ghost use Rattle.pd_kinds.specs.Bitmap.{bitmaps_for};
-ghost use Rattle.pd_draft.specs.Closed.{IsClosed, StaysClosed};
-ghost use Rattle.pd_draft.specs.Placed.{Wrote};
+ghost use Rattle.pd_grammar.specs.Need.{need_tree};
+ghost use Rattle.pd_laid.specs.Laid.{index_entry_of, index_items, tree_blocks, tree_root, free_in as free_of};
+ghost use Rattle.pd_image.specs.Device.{IsWritable};
+ghost use Rattle.pd_draft.specs.Closed.{IsClosed, StaysClosed, Wrote};
 ghost use Rattle.pd_draft.specs.DraftState.{draft_state};
-ghost use Rattle.pd_spells.specs.Need.{need_tree};
-ghost use Rattle.pd_laid.specs.Map.{index_entry_of, index_items};
-ghost use Rattle.pd_laid.specs.Tree.{tree_blocks, tree_root};
 ghost use Rattle.pd_count.specs.Counted.{count_of};
-ghost use Rattle.pd_build.specs.Causes.{CountsBuildFault};
-ghost use Rattle.pd_smwrite.specs.Map.{index_block as index_block_of};
+ghost use Rattle.pd_build.specs.Building.{CountsBuildFault};
+ghost use Rattle.pd_smwrite.specs.Map.{index_block as index_block_of, allocated_of};
 
 use crate::bitmaps::bitmap_number;
-use crate::free::free_in;
 use pd_bitmap::{new_index, seal_index};
 use pd_build::{BuildFault, Builder};
-use pd_count::Counts;
+use pd_count::{CHUNK_COUNTS, Counts};
 use pd_draft::Draft;
 use pd_image::Device;
 use pd_kinds::Block;
@@ -51,7 +48,8 @@ pub(crate) fn write_index_tree<D: Device>(
     requires room { draft.old.next + need_tree 16 (bitmaps_for counts.now.size) ≤ (draft_state draft.old).device.blocks }
     requires closed { IsClosed (draft_state draft.old).device }
     ensures same_reference { draft.new.dev.ghost_name ≡ draft.old.dev.ghost_name }
-    ensures wrote { OnOk result (Wrote (tree_blocks 16 draft.old.next (index_items (count_of counts.now) counts.now.size first)) (draft_state draft.old) (draft_state draft.new)) }
+    ensures wrote { OnOk result (Wrote (tree_blocks 16 draft.old.next (index_items (count_of counts.now) counts.now.size first))
+        (draft_state draft.old) (draft_state draft.new)) }
     ensures root { IfOk result (λ root. root ≡ tree_root 16 draft.old.next (index_items (count_of counts.now) counts.now.size first)) }
     ensures closed { StaysClosed (draft_state draft.old).device (draft_state draft.new).device }
     ensures faults { CountsBuildFault result (draft_state draft.old).device.faults (draft_state draft.new).device.faults }
@@ -81,11 +79,39 @@ pub(crate) fn index_block(alloc: Global, counts: &Counts, place: u64) -> Result<
 /// The entries of the bitmaps, which stand from the place `first` on.
 fn entries_of(alloc: Global, counts: &Counts, first: u64) -> Result<Vec<IndexEntry>, AllocError>
     requires { first + bitmaps_for counts.now.size < 2 ^ 64 }
-    ensures { IfOk result (λ entries. map ⟦<IndexEntry as Value>⟧.code entries.items ≡ map (index_entry_of (count_of counts.now) counts.now.size first) (range_with_len 0 (bitmaps_for counts.now.size))) }
+    ensures { IfOk result (λ entries. map ⟦<IndexEntry as Value>⟧.code entries.items
+        ≡ map (index_entry_of (count_of counts.now) counts.now.size first) (range_with_len 0 (bitmaps_for counts.now.size))) }
 {
     let mut entries = Vec::new(alloc);
     for i in 0..bitmap_number(counts) {
         entries.push(entry_of(counts, i, first))?;
     }
     Ok(entries)
+}
+
+// How many blocks have a count, and how many have none.
+
+/// How many blocks that bitmap `i` covers have a count of 0. Where none was counted, no number is looked at.
+pub(crate) fn free_in(counts: &Counts, i: u64) -> u32
+    requires { i < bitmaps_for counts.now.size }
+    ensures free { result ≡ free_of (count_of counts.now) counts.now.size i }
+    ensures most { result ≤ 16320 }
+    ensures covered { 16320 * i + result ≤ counts.now.size }
+{
+    let covered = (counts.size() - i * CHUNK_COUNTS as u64).min(CHUNK_COUNTS as u64) as usize;
+    match counts.chunk(i) {
+        None => covered as u32,
+        Some(chunk) => chunk.zeros(covered) as u32,
+    }
+}
+
+/// How many blocks have a count.
+pub(crate) fn allocated(counts: &Counts) -> u64
+    ensures { result ≡ allocated_of (count_of counts.now) counts.now.size }
+{
+    let mut allocated = counts.size();
+    for i in 0..bitmap_number(counts) {
+        allocated -= free_in(counts, i) as u64;
+    }
+    allocated
 }

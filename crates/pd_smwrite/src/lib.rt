@@ -6,13 +6,10 @@
 #![tactic(auto)]
 
 mod bitmaps;
-mod bits;
 mod data;
-mod free;
 mod index;
 mod laws;
 mod meta;
-mod overflow;
 
 pub use data::write_data_map;
 pub use laws::data_map_is_laid;

@@ -1,21 +1,16 @@
 //! The map of metadata blocks, which counts its own blocks.
 
 ghost use Rattle.std.specs.Prelude.{◌≡◌, ◌+◌, ◌<◌, ◌≤◌, ◌^◌, ℕ, List, [], ◌∷◌, IfOk, IfErr, OnOk};
+ghost use Rattle.pd_laid.specs.Laid.{written_from, laid_meta_map};
 ghost use Rattle.pd_image.specs.Device.{IsWritable};
-ghost use Rattle.pd_draft.specs.Closed.{IsClosed, StaysClosed};
-ghost use Rattle.pd_draft.specs.Placed.{Wrote};
+ghost use Rattle.pd_draft.specs.Closed.{IsClosed, StaysClosed, Wrote};
 ghost use Rattle.pd_draft.specs.DraftState.{draft_state};
-ghost use Rattle.pd_laid.specs.Laid.{written_from};
-ghost use Rattle.pd_laid.specs.Map.{laid_meta_map};
 ghost use Rattle.pd_count.specs.Counted.{HasCounted, count_of};
-ghost use Rattle.pd_build.specs.Causes.{CountsBuildFault};
-ghost use Rattle.pd_smwrite.specs.Map.{index_block as index_block_of, meta_map_blocks, meta_map_need, meta_map_root};
-ghost use Rattle.pd_smwrite.specs.Own.{CountsOwn, HasNone};
+ghost use Rattle.pd_build.specs.Building.{CountsBuildFault};
+ghost use Rattle.pd_smwrite.specs.Map.{index_block as index_block_of, meta_map_blocks, meta_map_need, meta_map_root, CountsOwn, HasNone};
 
-use crate::bitmaps::{bitmap_number, write_bitmaps};
-use crate::free::allocated;
-use crate::index::index_block;
-use crate::overflow::{overflow_number, write_overflow};
+use crate::bitmaps::{bitmap_number, overflow_number, write_bitmaps, write_overflow};
+use crate::index::{allocated, index_block};
 use pd_build::{BuildFault, need_tree, put_block};
 use pd_count::Counts;
 use pd_draft::Draft;
@@ -43,12 +38,14 @@ pub fn write_meta_map<D: Device>(
     requires closed { IsClosed (draft_state draft.old).device }
     ensures same_reference { draft.new.dev.ghost_name ≡ draft.old.dev.ghost_name }
     ensures counted { OnOk result (CountsOwn draft.old.next (meta_map_need (count_of counts.old) counts.old.size) counts.old counts.new) }
-    ensures wrote { OnOk result (Wrote (meta_map_blocks (count_of counts.new) counts.old.size draft.old.next) (draft_state draft.old) (draft_state draft.new)) }
+    ensures wrote { OnOk result (Wrote (meta_map_blocks (count_of counts.new) counts.old.size draft.old.next) (draft_state draft.old)
+        (draft_state draft.new)) }
     ensures root { IfOk result (λ root. root ≡ meta_map_root (count_of counts.new) counts.old.size draft.old.next) }
 
     // So what is written is the laid map, where these are the blocks that were named before.
     ensures laid { OnOk result ((role : ℕ) (named : List ℕ) → HasCounted counts.old named
-        → Wrote (written_from draft.old.next (laid_meta_map role counts.old.size draft.old.next named)) (draft_state draft.old) (draft_state draft.new)) }
+        → Wrote (written_from draft.old.next (laid_meta_map role counts.old.size draft.old.next named)) (draft_state draft.old)
+        (draft_state draft.new)) }
     ensures closed { StaysClosed (draft_state draft.old).device (draft_state draft.new).device }
     ensures faults { CountsBuildFault result (draft_state draft.old).device.faults (draft_state draft.new).device.faults }
 {
@@ -101,7 +98,8 @@ fn write_counted<D: Device>(
     requires room { draft.old.next + meta_map_need (count_of counts.now) counts.now.size ≤ (draft_state draft.old).device.blocks }
     requires closed { IsClosed (draft_state draft.old).device }
     ensures same_reference { draft.new.dev.ghost_name ≡ draft.old.dev.ghost_name }
-    ensures wrote { OnOk result (Wrote (meta_map_blocks (count_of counts.now) counts.now.size draft.old.next) (draft_state draft.old) (draft_state draft.new)) }
+    ensures wrote { OnOk result (Wrote (meta_map_blocks (count_of counts.now) counts.now.size draft.old.next) (draft_state draft.old)
+        (draft_state draft.new)) }
     ensures root { IfOk result (λ root. root ≡ meta_map_root (count_of counts.now) counts.now.size draft.old.next) }
     ensures closed { StaysClosed (draft_state draft.old).device (draft_state draft.new).device }
     ensures faults { CountsBuildFault result (draft_state draft.old).device.faults (draft_state draft.new).device.faults }
@@ -130,7 +128,8 @@ fn put_index<D: Device>(
     requires room { draft.old.next < (draft_state draft.old).device.blocks }
     requires closed { IsClosed (draft_state draft.old).device }
     ensures same_reference { draft.new.dev.ghost_name ≡ draft.old.dev.ghost_name }
-    ensures wrote { OnOk result (Wrote (index_block_of (count_of counts.now) counts.now.size draft.old.next ∷ []) (draft_state draft.old) (draft_state draft.new)) }
+    ensures wrote { OnOk result (Wrote (index_block_of (count_of counts.now) counts.now.size draft.old.next ∷ []) (draft_state draft.old)
+        (draft_state draft.new)) }
     ensures closed { StaysClosed (draft_state draft.old).device (draft_state draft.new).device }
     ensures faults { CountsBuildFault result (draft_state draft.old).device.faults (draft_state draft.new).device.faults }
 {

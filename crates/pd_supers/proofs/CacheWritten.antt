@@ -5,8 +5,7 @@ use Rattle.std.proofs.lemmas.Bool.{cases_Bool, true≢false}
 use Rattle.pd_kinds.specs.declared.kind.Kind.TheVariants.{Cache}
 use Rattle.pd_kinds.specs.Field.{DoFit, Row, bytes_at, le, put_bytes, written, zeros}
 use Rattle.pd_kinds.specs.CacheFormat.{CacheFields, by_version, cache_fields, cache_numbers, cache_rows, cache_super_block, cache_table}
-use Rattle.pd_kinds.proofs.WrittenLemmas.{length-put_bytes, length-written_zeros, length-zeros, put_bytes_read}
-use Rattle.pd_kinds.proofs.TableLemmas.{numbers_at, table_read, value_at, values_of}
+use Rattle.pd_kinds.proofs.WrittenLemmas.{length-put_bytes, length-written_zeros, length-zeros, put_bytes_read, numbers_at, table_read, value_at, values_of}
 use Rattle.pd_kinds.proofs.SuperLemmas.{bytes-super_block, numbers-put_bytes, numbers-super_block, uuid_read}
 
 -- three elements make up a list of three

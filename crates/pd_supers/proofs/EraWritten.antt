@@ -3,8 +3,7 @@ use Rattle.std.proofs.Common.{◌≡◌, ℕ, List, length, refl}
 use Rattle.pd_kinds.specs.declared.kind.Kind.TheVariants.{Era}
 use Rattle.pd_kinds.specs.Field.{DoFit, Row, written, zeros}
 use Rattle.pd_kinds.specs.EraFormat.{EraFields, era_fields, era_numbers, era_rows, era_super_block, era_table}
-use Rattle.pd_kinds.proofs.WrittenLemmas.{length-written_zeros}
-use Rattle.pd_kinds.proofs.TableLemmas.{value_at}
+use Rattle.pd_kinds.proofs.WrittenLemmas.{length-written_zeros, value_at}
 use Rattle.pd_kinds.proofs.SuperLemmas.{fields_read, uuid_read}
 
 -- the fields that these rows and this uuid make up

@@ -2,9 +2,8 @@
 use Rattle.std.proofs.Common.{◌≡◌, ℕ, List, length, refl}
 use Rattle.pd_kinds.specs.declared.kind.Kind.TheVariants.{Thin}
 use Rattle.pd_kinds.specs.Field.{DoFit, Row, written, zeros}
-use Rattle.pd_kinds.specs.ThinSuper.{ThinFields, thin_fields, thin_numbers, thin_rows, thin_super_block, thin_table}
-use Rattle.pd_kinds.proofs.WrittenLemmas.{length-written_zeros}
-use Rattle.pd_kinds.proofs.TableLemmas.{value_at}
+use Rattle.pd_kinds.specs.ThinFormat.{ThinFields, thin_fields, thin_numbers, thin_rows, thin_super_block, thin_table}
+use Rattle.pd_kinds.proofs.WrittenLemmas.{length-written_zeros, value_at}
 use Rattle.pd_kinds.proofs.SuperLemmas.{fields_read, uuid_read}
 
 -- the fields that these rows and this uuid make up

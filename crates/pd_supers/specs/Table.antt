@@ -1,8 +1,8 @@
 -- The rows of a table, as the code has them.
 use Rattle.std.specs.Prelude.{ℕ, ◌+◌, Bool, true, ◌&&◌, nat_le, List, [], ◌∷◌}
 use Rattle.pd_kinds.specs.Field.{Row}
-use Rattle.pd_supers.specs.declared.table.Number.{Number}
-use Rattle.pd_supers.specs.declared.table.Number.TheVariants.{Four, Eight}
+use Rattle.pd_supers.specs.declared.shared.Number.{Number}
+use Rattle.pd_supers.specs.declared.shared.Number.TheVariants.{Four, Eight}
 
 -- the size of a number in bytes, and the number
 abbrev pub size_of : Number → ℕ

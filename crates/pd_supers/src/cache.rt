@@ -3,13 +3,14 @@
 ghost use Rattle.std.specs.Prelude.{◌≡◌, ◌≢◌, ℕ, false, map};
 ghost use Rattle.pd_kinds.specs.declared.rule.Rule.TheVariants.{Checksum, Place, Magic};
 ghost use Rattle.pd_kinds.specs.CacheFormat.{cache_fields, cache_rows, cache_super_bad, cache_super_block};
+ghost use Rattle.pd_kinds.specs.CacheFormat.{are_cache_sizes_bad, cache_super_edges, cache_super_tests, dirty_edges};
+ghost use Rattle.pd_kinds.specs.declared.rule.Rule.{Rule as BrokenRule};
+ghost use Rattle.pd_kinds.specs.Rule.{failing, has_rule};
 ghost use Rattle.pd_supers.specs.Table.{row_of};
 
-use crate::map_root::read_map_root;
-use crate::super_block::{put_sixteen, sixteen_at, super_block};
-use crate::table::Number::{self, Eight, Four};
-use crate::table::put_rows;
-use pd_kinds::{Block, CacheSuper, Kind, u32_at, u64_at};
+use crate::shared::Number::{self, Eight, Four};
+use crate::shared::{put_rows, put_sixteen, read_map_root, sixteen_at, super_block, super_rules};
+use pd_kinds::{Block, CacheSuper, Edges, Kind, Rule, Rules, is_meta_size_bad, u32_at, u64_at};
 
 /// The fields of a cache's superblock, whatever rules it breaks.
 pub fn read_cache_super(block: &Block) -> CacheSuper
@@ -112,4 +113,55 @@ fn rows_of(s: &CacheSuper) -> [(usize, Number); 26]
         (280, Four(s.versions[2])),
         (284, Eight(s.dirty_root)),
     ]
+}
+
+// The rules that a cache's superblock breaks, and the blocks that it names.
+
+/// The rules that block 0 of a cache's metadata breaks, on a device of so many blocks.
+#[tactic(auto, unfolding(pd_kinds::specs::CacheFormat::cache_super_bad))]
+pub fn cache_super_rules(block: &Block, device_blocks: u64) -> Rules
+    ensures { (rule : BrokenRule) → has_rule result rule ≡ cache_super_bad device_blocks block.now.0 rule }
+{
+    super_rules(Kind::Cache, block, table_rules(block, device_blocks))
+}
+
+/// The rules that are looked at each by itself.
+#[tactic(auto, unfolding(pd_kinds::specs::CacheFormat::cache_super_tests, pd_kinds::specs::CacheFormat::are_cache_sizes_bad, pd_kinds::specs::Rule::failing))]
+fn table_rules(block: &Block, device_blocks: u64) -> Rules
+    ensures { (rule : BrokenRule) → has_rule result rule ≡ failing (cache_super_tests device_blocks block.now.0) rule }
+{
+    let fields = read_cache_super(block);
+    let place = u64_at(&block.0, 8);
+    let hint_bad = (fields.hint_size != 0) & (fields.hint_size != 4);
+    let sizes_bad = is_meta_size_bad(device_blocks, fields.meta_map.blocks) | hint_bad;
+    let edge_outside = cache_super_edges(&fields).any_outside(fields.meta_map.blocks);
+    Rules::none()
+        .with_if(Rule::Place, place != 0)
+        .with_if(Rule::Version, (fields.version != 1) & (fields.version != 2))
+        .with_if(Rule::Features, fields.incompat != 0)
+        .with_if(Rule::Size, sizes_bad)
+        .with_if(Rule::Pointer, !sizes_bad & edge_outside)
+}
+
+/// The blocks that the superblock names, with their roles.
+pub fn cache_super_edges(s: &CacheSuper) -> Edges
+    ensures { result ≡ cache_super_edges s.now }
+{
+    dirty_edges(s)
+        .with(9, s.meta_map.overflow_root)
+        .with(7, s.meta_map.bitmap_root)
+        .with_optional(5, s.discard_root)
+        .with_optional(3, s.hint_root)
+        .with(1, s.mapping_root)
+}
+
+/// The root of the dirty bitset, which version 2 has.
+fn dirty_edges(s: &CacheSuper) -> Edges
+    ensures { result ≡ dirty_edges s.now }
+{
+    if s.version == 2 {
+        Edges::none().with(10, s.dirty_root)
+    } else {
+        Edges::none()
+    }
 }

@@ -2,29 +2,27 @@
 #![tactic(auto)]
 
 mod cache;
-mod cache_rules;
 mod era;
-mod era_rules;
-mod map_root;
-mod super_block;
-mod table;
+mod shared;
 mod thin;
-mod thin_rules;
 
 ghost use Rattle.std.specs.Prelude.{◌≡◌};
 ghost use Rattle.pd_kinds.specs.Rule.{same_rule};
-ghost use Rattle.pd_kinds.specs.RuleSet.{has_rule};
+ghost use Rattle.pd_kinds.specs.Rule.{has_rule};
 ghost use Rattle.pd_kinds.specs.declared.rule.Rule.{Rule as BrokenRule};
 ghost use Rattle.pd_kinds.specs.declared.rule.Rule.TheVariants.{Size};
 
-pub use cache::{read_cache_super, write_cache_super};
-pub use cache_rules::{cache_super_edges, cache_super_rules};
-pub use era::{read_era_super, write_era_super};
-pub use era_rules::{era_snap_edges, era_snap_rules, era_super_edges, era_super_rules};
+pub use cache::{cache_super_edges, cache_super_rules, read_cache_super, write_cache_super};
+pub use era::{
+    era_snap_edges, era_snap_rules, era_super_edges, era_super_rules, read_era_super,
+    write_era_super,
+};
 use pd_kinds::{Rule, Rules};
 pub use pd_kinds::{CacheSuper, EraSuper, SmRoot, ThinSuper};
-pub use thin::{read_thin_super, write_thin_super};
-pub use thin_rules::{thin_held_edges, thin_held_rules, thin_super_edges, thin_super_rules};
+pub use thin::{
+    read_thin_super, thin_held_edges, thin_held_rules, thin_super_edges, thin_super_rules,
+    write_thin_super,
+};
 
 /// The rules of a device that has no block 0: Size alone.
 pub fn missing_super() -> Rules

@@ -3,13 +3,11 @@ use Rattle.std.proofs.Common.{◌≡◌, ℕ, true, List, [], ◌∷◌, ◌++�
 use Rattle.std.proofs.lemmas.Grind.{flat_map-append}
 use Rattle.std.proofs.lemmas.List.{append-nil}
 use Rattle.pd_grammar.specs.Spelling.{Spells}
-use Rattle.pd_grammar.specs.Words.{split}
-use Rattle.pd_grammar.specs.Texts.{TextFormat, Reading, has_ended, reading, text_of_lines, whole, written}
-use Rattle.pd_grammar.proofs.GrammarLemmas.{IsGrammar, AreLines, is_reader, lines_if_read}
-use Rattle.pd_grammar.proofs.LineLemmas.{IsReader, AreRead, written_if_read}
-use Rattle.pd_grammar.proofs.SplitLemmas.{join_split, split-some}
+use Rattle.pd_grammar.specs.Texts.{split, TextFormat, Reading, has_ended, reading, text_of_lines, whole, written}
+use Rattle.pd_grammar.proofs.GrammarLemmas.{IsGrammar, AreLines, is_reader, lines_if_read, IsReader, AreRead, written_if_read}
+use Rattle.pd_grammar.proofs.WordLemmas.{join_split, split-some}
 use Rattle.pd_grammar.proofs.SpellingLemmas.{IsLanguage, reading_if_spelled, spelled_if_none}
-use Rattle.pd_texts.specs.Printed.{text_of_line}
+use Rattle.pd_texts.specs.ThinLine.{text_of_line}
 use Rattle.pd_texts.specs.Reader.{AreReadSoFar, in_order}
 
 -- lines in order, and others after them

@@ -2,12 +2,12 @@
 use Rattle.std.proofs.Common.{ℕ, ◌+◌, ◌-◌, ◌^◌, ◌≤◌, min, Result, Ok, Err, arith}
 use Rattle.std.specs.Prelude.{IfErr}
 use Rattle.pd_grammar.specs.declared.cause.TextCause.{TextCause}
-use Rattle.pd_lines.specs.declared.fault.LineFault.{LineFault}
-use Rattle.pd_lines.specs.declared.fault.LineFault.TheVariants as l
+use Rattle.pd_lines.specs.declared.reader.LineFault.{LineFault}
 use Rattle.pd_lines.specs.Numbered.{IsNumbered}
-use Rattle.pd_texts.specs.declared.fault.ReadFault.{ReadFault}
-use Rattle.pd_texts.specs.declared.fault.ReadFault.TheVariants as r
-use Rattle.pd_texts.specs.Faults.{fault_of, fault_after_end, IsPast}
+use Rattle.pd_lines.specs.declared.reader.LineFault.TheVariants as l
+use Rattle.pd_texts.specs.declared.reader.ReadFault.{ReadFault}
+use Rattle.pd_texts.specs.Reader.{fault_of, fault_after_end, IsPast}
+use Rattle.pd_texts.specs.declared.reader.ReadFault.TheVariants as r
 
 pub past_of : (lines : ℕ) (other : TextCause) (fault : LineFault) → IsNumbered (min (lines + 1) (2 ^ 64 - 1)) fault → IsPast lines (fault_of other fault)
 past_of lines other l.Source is = tt

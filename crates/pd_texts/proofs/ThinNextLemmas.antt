@@ -1,19 +1,24 @@
 -- What lines of a pool's text that were read say and mean.
-use Rattle.std.proofs.Common.{◌≡◌, ◌∙◌, ap, sym, refl, ℕ, ◌+◌, ◌^◌, ◌≤◌, ◌<◌, Bool, true, false, not, ◌&&◌, ◌||◌, eqb, ltb, leb, List, [], ◌∷◌, length, arith}
+use Rattle.std.proofs.Common.{◌≡◌, ◌∙◌, ap, sym, refl, ℕ, ◌+◌, ◌≤◌, Bool, true, false, not, ◌&&◌, eqb, ltb, leb, List, [], ◌∷◌, length, arith, ◌++◌, map}
 use Rattle.std.proofs.lemmas.Bool.{true≢false, and_parts, not-true}
 use Rattle.std.proofs.lemmas.Bool.Decides.{nat_tests}
 use Rattle.std.proofs.lemmas.Option.{none-some}
-use Rattle.pd_kinds.specs.Meaning.{ThinPool}
-use Rattle.pd_grammar.specs.Texts.{has_ended}
+use Rattle.std.specs.List.{flat_map}
+use Rattle.std.proofs.lemmas.Grind.{flat_map-append}
+use Rattle.pd_kinds.specs.Meaning.{ThinPool, ThinDevice}
+use Rattle.pd_kinds.proofs.NumberLemmas.{use_tells}
+use Rattle.pd_kinds.specs.declared.kind.Kind.TheVariants.{Thin}
+use Rattle.pd_grammar.specs.Texts.{has_ended, reading, text_of_lines, whole}
 use Rattle.pd_grammar.specs.Tables.{format_of}
 use Rattle.pd_grammar.proofs.TableLemmas.{PlacedBy}
-use Rattle.pd_grammar.proofs.GrammarLemmas.{IsGrammar, Passes, is_read}
-use Rattle.pd_spells.specs.ThinText.{Line, first_line, shared_first_line, pool_line, leaf_line, device_line, use_line, map_line, end_line, Head, LeafHead, Details, Run, table_from, thin, thin_tests, has_number_out_of_range, is_out_of_order, is_mapped_otherwise, data_blocks_of, is_shared, leaf_number, runs_of_leaf, least_of, number_in, least_id, has_device, piece_end, unmapped, MeansPool}
-use Rattle.pd_spells.proofs.ThinRead.{FitsLine, Placed, thin_grammar}
-use Rattle.pd_spells.proofs.ThinLaws.{thin_language}
-use Rattle.pd_spells.proofs.ThinMeaning.{IsUnshared}
+use Rattle.pd_grammar.proofs.GrammarLemmas.{IsGrammar, Passes, is_read, is_reader}
+use Rattle.pd_grammar.specs.ThinText.{Line, first_line, shared_first_line, pool_line, leaf_line, device_line, use_line, map_line, end_line, Head, LeafHead, Details, Run, table_from, thin, thin_tests, has_number_out_of_range, is_out_of_order, is_mapped_otherwise, data_blocks_of, is_shared, leaf_number, runs_of_leaf, least_of, number_in, least_id, has_device, piece_end, unmapped, MeansPool, head_of, joined_part, lines_of_part, text_of_pool}
+use Rattle.pd_grammar.proofs.ThinRead.{FitsLine, Placed, thin_grammar}
+use Rattle.pd_grammar.proofs.ThinLaws.{thin_language}
+use Rattle.pd_grammar.proofs.ThinMeaning.{IsUnshared, device_tells, in_device, map_tells, pool_tells}
 use Rattle.pd_texts.specs.Reader.{IsReadAfter, AreReadSoFar, in_order}
-use Rattle.pd_texts.specs.ThinNext.{IsPoolLine, IsLeafLine, IsDeviceLine, IsUseLine, IsRunLine, IsMapLine, IsEndLine}
+use Rattle.pd_texts.specs.ThinState.{IsPoolLine, IsLeafLine, IsDeviceLine, IsUseLine, IsRunLine, IsMapLine, IsEndLine}
+use Rattle.pd_texts.specs.ThinLine.{text_of_line, first_text, end_text, runs_text, device_text}
 use Rattle.pd_texts.proofs.LawLemmas as any
 
 -- lines that were read up to the last one mean a pool
@@ -30,29 +35,10 @@ passed : (before : List Line) (line : Line) → 1 ≤ length before → Passes t
 passed [] line some passes = absurd (omega arith)
 passed (newest ∷ before) line some passes = record { range = passes.0; order = passes.1.0; mapped = passes.1.1.0 }
 
-pool_says : (time size blocks : ℕ) → not (ltb time (2 ^ 32) && (ltb size (2 ^ 32) && leb blocks (2 ^ 40))) ≡ false
-    → (time < 2 ^ 32) × ((size < 2 ^ 32) × (blocks ≤ 2 ^ 40))
-pool_says time size blocks range = (grind (arith, nat_tests), (grind (arith, nat_tests), grind (arith, nat_tests)))
-
-device_says : (created snapped id least left : ℕ) → not (ltb created (2 ^ 32) && ltb snapped (2 ^ 32)) ≡ false → ltb id least ≡ false → ltb 0 left ≡ false
-    → (created < 2 ^ 32) × ((snapped < 2 ^ 32) × ((least ≤ id) × (left ≡ 0)))
-device_says created snapped id least left range order mapped =
-    (grind (arith, nat_tests), (grind (arith, nat_tests), (grind (arith, nat_tests), grind (arith, nat_tests))))
-
 leaf_says : (number leaves n left : ℕ) → not (leb 1 n && leb n 252) ≡ false → not (eqb number leaves) ≡ false → ltb 0 left ≡ false
     → (number ≡ leaves) × ((left ≡ 0) × ((1 ≤ n) × (n ≤ 252)))
 leaf_says number leaves n left range order mapped =
     (grind (arith, nat_tests), (grind (arith, nat_tests), (grind (arith, nat_tests), grind (arith, nat_tests))))
-
-use_says : (number leaves least end left n : ℕ) → not (ltb number leaves) ≡ false → ltb least end ≡ false → ltb left n ≡ false
-    → (number < leaves) × ((end ≤ least) × (n ≤ left))
-use_says number leaves least end left n range order mapped = (grind (arith, nat_tests), (grind (arith, nat_tests), grind (arith, nat_tests)))
-
-map_says : (n end blocks_end blocks time v run left : ℕ) → not (ltb 0 n && (leb end (2 ^ 64) && (leb blocks_end blocks && ltb time (2 ^ 24)))) ≡ false
-    → ltb v run ≡ false → ltb left n ≡ false
-    → (1 ≤ n) × ((end ≤ 2 ^ 64) × ((blocks_end ≤ blocks) × ((time < 2 ^ 24) × ((run ≤ v) × (n ≤ left)))))
-map_says n end blocks_end blocks time v run left range order mapped =
-    (grind (arith, nat_tests), (grind (arith, nat_tests), (grind (arith, nat_tests), (grind (arith, nat_tests), (grind (arith, nat_tests), grind (arith, nat_tests))))))
 
 end_says : (left : ℕ) → ltb 0 left ≡ false → left ≡ 0
 end_says left mapped = grind (arith, nat_tests)
@@ -63,7 +49,7 @@ module _ (firsts : List Line) (grammar : IsGrammar (format_of (table_from firsts
   pool_read before p one =
       let is = is_read (format_of (table_from firsts)) FitsLine (PlacedBy (table_from firsts)) grammar before one.bytes (pool_line p) one.is in
       let tests = passed before (pool_line p) (omega (arith, is.placed)) is.passes in
-      let says = pool_says p.time p.block_size p.data_blocks tests.range in
+      let says = pool_tells p.time p.block_size p.data_blocks tests.range in
       record {
         second = is.placed;
         uuid_len = is.fits.0;
@@ -96,14 +82,14 @@ module _ (firsts : List Line) (grammar : IsGrammar (format_of (table_from firsts
       let tests = passed before (use_line number) (omega (arith, is.placed.0)) is.passes in
       let may = and_parts (is_shared before) (has_device before) is.placed.1 in
       let runs = runs_of_leaf before number in
-      let says = use_says number (leaf_number before) (least_of runs) (piece_end before) (unmapped before) (number_in runs) tests.range tests.order tests.mapped in
+      let says = use_tells number (leaf_number before) (least_of runs) (piece_end before) (unmapped before) (number_in runs) tests.range tests.order tests.mapped in
       record { later = is.placed.0; shared = may.0; has_device = may.1; told = says.0; above = says.1.0; mapped = says.1.1 }
 
   pub device_read : (before : List Line) (d : Details) → IsReadAfter (format_of (table_from firsts)) before (device_line d) → IsDeviceLine before d
   device_read before d one =
       let is = is_read (format_of (table_from firsts)) FitsLine (PlacedBy (table_from firsts)) grammar before one.bytes (device_line d) one.is in
       let tests = passed before (device_line d) (omega (arith, is.placed)) is.passes in
-      let says = device_says d.created d.snapped d.id (least_id before) (unmapped before) tests.range tests.order tests.mapped in
+      let says = device_tells d.created d.snapped d.id (least_id before) (unmapped before) tests.range tests.order tests.mapped in
       record {
         later = is.placed;
         above = says.1.1.0;
@@ -119,7 +105,7 @@ module _ (firsts : List Line) (grammar : IsGrammar (format_of (table_from firsts
   run_read before r one =
       let is = is_read (format_of (table_from firsts)) FitsLine (PlacedBy (table_from firsts)) grammar before one.bytes (map_line r) one.is in
       let tests = passed before (map_line r) (omega (arith, is.placed.0)) is.passes in
-      let says = map_says r.length (r.virtual_block + r.length) (r.data_block + r.length) (data_blocks_of before) r.time r.virtual_block (piece_end before) (unmapped before)
+      let says = map_tells r.length (r.virtual_block + r.length) (r.data_block + r.length) (data_blocks_of before) r.time r.virtual_block (piece_end before) (unmapped before)
       tests.range tests.order tests.mapped in
       record {
         later = is.placed.0;
@@ -154,14 +140,6 @@ unshared (use_line n ∷ before) so_far = let rest = unshared before so_far.1 in
 unshared (map_line r ∷ before) so_far = let rest = unshared before so_far.1 in record { version = rest.version; none = rest.none }
 unshared (end_line ∷ before) so_far = let rest = unshared before so_far.1 in record { version = rest.version; none = rest.none }
 
--- so a map line is of a device
-or_false : (b : Bool) → (b || false) ≡ b
-or_false true = refl
-or_false false = refl
-
-in_device : (before : List Line) → IsUnshared before → (has_device before || ltb 0 (leaf_number before)) ≡ true → has_device before ≡ true
-in_device before unshared placed = sym (or_false (has_device before)) ∙ rw unshared.none at placed
-
 pub map_read_first : (before : List Line) (r : Run) → IsUnshared before → IsReadAfter thin before (map_line r) → IsMapLine before r
 map_read_first before r first one =
     let is = run_read (first_line ∷ []) thin_grammar before r one in
@@ -178,3 +156,32 @@ map_read_first before r first one =
 
 pub map_read : (before : List Line) (r : Run) → AreReadSoFar thin (map_line r ∷ before) → IsMapLine before r
 map_read before r so_far = map_read_first before r (unshared before so_far.1) so_far.0
+
+-- What the lines of a pool's text come to.
+
+-- a text of which no line is refused is that of its lines
+pub whole_bytes : (text : List ℕ) (lines : List Line) → reading thin text ≡ whole lines → text ≡ text_of_lines thin lines
+whole_bytes = any.whole_bytes thin (is_reader thin FitsLine Placed thin_grammar)
+
+-- the lines of runs, of a device and of devices
+runs_lines : (runs : List Run) → text_of_lines thin (map map_line runs) ≡ runs_text runs
+runs_lines [] = refl
+runs_lines (r ∷ runs) = ap (λ (xs : List ℕ). text_of_line thin (map_line r) ++ xs) (runs_lines runs)
+
+device_lines : (d : ThinDevice) → text_of_lines thin (lines_of_part (joined_part d)) ≡ device_text d
+device_lines d = ap (λ (xs : List ℕ). text_of_line thin (device_line (joined_part d).details) ++ xs) (runs_lines (joined_part d).runs)
+
+devices_lines : (ds : List ThinDevice) → text_of_lines thin (flat_map lines_of_part (map joined_part ds)) ≡ flat_map device_text ds
+devices_lines [] = refl
+devices_lines (d ∷ ds) =
+    flat_map-append (text_of_line thin) (lines_of_part (joined_part d)) (flat_map lines_of_part (map joined_part ds))
+    ∙ ap (λ (xs : List ℕ). xs ++ text_of_lines thin (flat_map lines_of_part (map joined_part ds))) (device_lines d)
+    ∙ ap (λ (xs : List ℕ). device_text d ++ xs) (devices_lines ds)
+
+pub pool_lines : (m : ThinPool) → text_of_pool m ≡ first_text Thin ++ (text_of_line thin (pool_line (head_of m)) ++ (flat_map device_text m.devices ++ end_text))
+unfolding text_of_pool
+pool_lines m =
+    let parts = flat_map lines_of_part (map joined_part m.devices) in
+    let body : text_of_lines thin (parts ++ (end_line ∷ [])) ≡ flat_map device_text m.devices ++ end_text =
+    flat_map-append (text_of_line thin) parts (end_line ∷ []) ∙ ap (λ (xs : List ℕ). xs ++ end_text) (devices_lines m.devices) in
+    ap (λ (xs : List ℕ). first_text Thin ++ (text_of_line thin (pool_line (head_of m)) ++ xs)) body

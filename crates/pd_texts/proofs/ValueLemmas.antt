@@ -1,24 +1,52 @@
 -- Words of fields, one after another, and what they are in their place.
-use Rattle.std.proofs.Common.{◌≡◌, inl, inr, ℕ, zero, suc, ◌+◌, ◌≤◌, ◌<◌, Bool, true, false, not, ◌&&◌, List, [], ◌∷◌, ◌++◌, length, take, drop, get_or, slice_index, replicate, refl, ap, sym, ◌∙◌, append_assoc, add-one, arith, Option, Some, None, Result, Ok, Err}
-use Rattle.std.proofs.lemmas.Bool.{cases_Bool, true≢false}
+use Rattle.std.proofs.Common.{◌≡◌, ℕ, ◌≤◌, true, false, eqb, List, [], length, refl, arith, Some, None, Result, Ok, Err, zero, suc, ◌+◌, ◌<◌, Bool, not, ◌&&◌, ◌∷◌, ◌++◌, take, drop, get_or, slice_index, replicate, ap, sym, ◌∙◌, append_assoc, add-one, Option}
+use Rattle.std.proofs.lemmas.Bool.Decides.{nat_tests}
+use Rattle.std.specs.List.{list_all}
+use Rattle.std.proofs.lemmas.Bool.{true≢false}
 use Rattle.std.proofs.lemmas.List.{append-nil}
 use Rattle.std.specs.Borrow.{Bor}
 use Rattle.std.specs.Prelude.{is_some}
 use Rattle.pd_grammar.specs.declared.cause.TextCause.{TextCause}
-use Rattle.pd_grammar.specs.declared.cause.TextCause.TheVariants.{Word, Number, OutOfRange}
+use Rattle.pd_grammar.specs.declared.cause.TextCause.TheVariants.{Header, Word, Number}
+use Rattle.pd_grammar.specs.Texts.{split, is_printable, TextFormat, read, tested, result_map}
 use Rattle.pd_grammar.specs.declared.value.Field.{Field}
-use Rattle.pd_grammar.specs.declared.value.Field.TheVariants as f
 use Rattle.pd_grammar.specs.declared.value.Value.{Value}
-use Rattle.std.specs.List.{list_all}
-use Rattle.pd_grammar.specs.Words.{split, is_printable, result_map}
-use Rattle.pd_grammar.specs.Texts.{Test, TextFormat, read, tested}
 use Rattle.pd_grammar.specs.Tables.{value_of, with_value, values_in, Table, LineKind, may_stand, kind_named, parsed_by, format_of}
-use Rattle.pd_grammar.proofs.SplitLemmas.{split-some}
-use Rattle.pd_grammar.proofs.NumberLemmas.{ok-err, same_Ok}
-use Rattle.pd_texts.specs.Seen.{in_range}
+use Rattle.pd_grammar.proofs.WordLemmas.{split-some}
 use Rattle.pd_grammar.proofs.TableLemmas.{values_at}
+use Rattle.pd_grammar.specs.declared.value.Field.TheVariants as f
 use Rattle.pd_texts.specs.Words.{words_in, is_name, value_by, name_at}
-use Rattle.pd_texts.proofs.ReadLemmas.{later_ok, later_err}
+
+-- What a line is in its place, by its words.
+
+pub not_first : (n : ℕ) → 1 ≤ n → eqb n 0 ≡ false
+not_first n some = grind (arith, nat_tests)
+
+-- the first line
+pub first_ok : {M : Type 0} → (format : TextFormat M) (bytes : List ℕ) (line : M) → format.first bytes ≡ Some line → read format [] bytes ≡ Ok line
+unfolding read
+first_ok format bytes line is = rw is refl
+
+pub first_err : {M : Type 0} → (format : TextFormat M) (bytes : List ℕ) → format.first bytes ≡ None → read format [] bytes ≡ Err Header
+unfolding read
+first_err format bytes is = rw is refl
+
+-- a later line whose words are right, and one whose words aren't
+pub later_ok : {M : Type 0} → (format : TextFormat M) (before : List M) (bytes : List ℕ) (line : M) (r : Result M TextCause) → 1 ≤ length before → list_all is_printable bytes ≡ true
+    → Ok line ≡ format.parsed before (split 32 bytes) → r ≡ tested format.tests before line → r ≡ read format before bytes
+unfolding read
+later_ok format before bytes line r some text is e = rw (not_first (length before) some, text, ← is) e
+
+pub later_err : {M : Type 0} → (format : TextFormat M) (before : List M) (bytes : List ℕ) (cause : TextCause) → 1 ≤ length before → list_all is_printable bytes ≡ true
+    → Err cause ≡ format.parsed before (split 32 bytes) → Err cause ≡ read format before bytes
+unfolding read
+later_err format before bytes cause some text is = rw (not_first (length before) some, text, ← is) refl
+
+-- a byte that a line may not have
+pub other_bytes : {M : Type 0} → (format : TextFormat M) (before : List M) (bytes : List ℕ) → 1 ≤ length before → list_all is_printable bytes ≡ false
+    → read format before bytes ≡ Err Word
+unfolding read
+other_bytes format before bytes some other = rw (not_first (length before) some, other) refl
 
 -- the values of the first fields are those of names and numbers in these places
 values_more : (fields : List Field) (i : ℕ) (d : Field) (names names' : ℕ → List ℕ) (ns ns' : ℕ → ℕ) → i < length fields
@@ -89,7 +117,7 @@ and_true : (b : Bool) → (b && true) ≡ b
 and_true true = refl
 and_true false = refl
 
-and_false : (b : Bool) → (b && false) ≡ false
+pub and_false : (b : Bool) → (b && false) ≡ false
 and_false true = refl
 and_false false = refl
 
@@ -191,19 +219,3 @@ module _ {L : Type 0} (format : TextFormat L) (table : Table L) (by_table : form
       → values_in kind.fields words ≡ Err cause → Err cause ≡ read format before bytes
   unfolding parsed_by
   read_err kind cause named stands are = rw by_table (later_err (format_of table) before bytes cause some text (rw (cut, ← named, ← stands, are) refl))
-
--- a line whose numbers aren't in their ranges, and one whose numbers are
-module _ {L : Type 0} (is_out : List L → L → Bool) (tests : List (Test L)) (before : List L) (line : L) where
-  pub out_of_range : (cause : TextCause) → Err cause ≡ in_range is_out before line → Err cause ≡ tested (record { cause = OutOfRange; fails = is_out } ∷ tests) before line
-  unfolding tested
-  out_of_range cause is = elim (cases_Bool (is_out before line)) [
-    | inl out ↦ rw out (rw out at is)
-    | inr within ↦ absurd (ok-err line cause (sym (rw within at is)))
-  ]
-
-  pub within_range : (x : L) (r : Result L TextCause) → Ok x ≡ in_range is_out before line
-      → (is_out before x ≡ false → r ≡ tested (record { cause = OutOfRange; fails = is_out } ∷ tests) before x) → r ≡ tested (record { cause = OutOfRange; fails = is_out } ∷ tests) before line
-  within_range x r is then = elim (cases_Bool (is_out before line)) [
-    | inl out ↦ absurd (ok-err x OutOfRange (rw out at is))
-    | inr within ↦ let same : x ≡ line = same_Ok {E = TextCause} x line (rw within at is) in rw (← same) (then (rw same within))
-  ]

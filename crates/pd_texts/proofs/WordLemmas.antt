@@ -10,12 +10,12 @@ use Rattle.std.proofs.lemmas.Str.Parse.{digits_value-take-le}
 use Rattle.std.proofs.lemmas.Int.Digits.{digits_value_more}
 use Rattle.std.specs.Char.{is_ascii_digit, digit_value}
 use Rattle.std.specs.List.{list_all}
-use Rattle.std.specs.Str.{all_ascii_digits}
+use Rattle.std.specs.Str.{all_ascii_digits, bytes_eq}
 use Rattle.std.specs.Str.Parse.{digits_value}
 use Rattle.std.proofs.Math.Nat.{pow-le-pow_right}
-use Rattle.pd_grammar.specs.Words.{split, is_canonical, number_of}
-use Rattle.pd_grammar.proofs.SplitLemmas.{Lacks, split-cut, split-one}
-use Rattle.pd_grammar.proofs.NumberLemmas.{both}
+use Rattle.std.proofs.lemmas.Slice.Eq.{bytes_eq-Decides}
+use Rattle.pd_grammar.specs.Texts.{split, is_canonical, number_of, bytes_of}
+use Rattle.pd_grammar.proofs.WordLemmas.{Lacks, split-cut, split-one, both}
 use Rattle.pd_lines.proofs.ReaderLemmas.{cut_at}
 use Rattle.pd_texts.specs.Words.{first_word}
 
@@ -146,3 +146,27 @@ first_is bytes word words e = rw e refl
 
 pub first_number : (bytes word : List ℕ) (words : List (List ℕ)) (o : Option ℕ) → split 32 bytes ≡ word ∷ words → o ≡ number_of word → o ≡ number_of (first_word bytes)
 first_number bytes word words o e is = is ∙ ap number_of (sym (ap (λ (ws : List (List ℕ)). get_or ws 0 []) e))
+
+-- Words that are identifiers, as the code reads them.
+
+-- sixteen bytes in a form
+swapped : (a b : List ℕ) → false ≡ bytes_eq b a → bytes_eq a b ≡ false
+swapped a b differ = elim (cases_Bool (bytes_eq a b)) [
+  | inr e ↦ e
+  | inl e ↦ absurd (true≢false (sym ((bytes_eq-Decides b a).1 (sym ((bytes_eq-Decides a b).0 e))) ∙ sym differ))
+]
+
+-- a word that isn't in its form, and one that isn't parsed
+pub other_bytes : (read : List ℕ → Option (List ℕ)) (form : List ℕ → List ℕ) (word bytes text : List ℕ) → Some bytes ≡ read word → text ≡ form bytes → false ≡ bytes_eq text word → None ≡ bytes_of read form word
+unfolding bytes_of
+other_bytes read form word bytes text is same differ =
+    let test : bytes_eq word (form bytes) ≡ false = swapped word (form bytes) (rw same at differ) in
+    rw (← is, test) refl
+
+unparsed : (read : List ℕ → Option (List ℕ)) (form : List ℕ → List ℕ) (o : Option (List ℕ)) (word : List ℕ) → o ≡ read word → (((u : List ℕ) × (read word ≡ Some u)) → ⊥) → None ≡ bytes_of read form word
+unfolding bytes_of
+unparsed read form None word is none = rw (← is) refl
+unparsed read form (Some u) word is none = absurd (none (u, sym is))
+
+pub no_bytes : (read : List ℕ → Option (List ℕ)) (form : List ℕ → List ℕ) (word : List ℕ) → (((u : List ℕ) × (read word ≡ Some u)) → ⊥) → None ≡ bytes_of read form word
+no_bytes read form word none = unparsed read form (read word) word refl none

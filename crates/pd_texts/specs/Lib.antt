@@ -1,14 +1,5 @@
-pub mod Faults
-pub mod Seen
 pub mod Reader
-pub mod Words
-pub mod Stage
-pub mod Headers
 pub mod ThinLine
-pub mod ThinKind
-pub mod Leaves
-pub mod Printed
-pub mod ThinLaws
 pub mod ThinState
-pub mod ThinPrinted
-pub mod ThinNext
+pub mod Words
+pub mod ThinLaws

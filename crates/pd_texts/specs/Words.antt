@@ -1,13 +1,14 @@
 -- Words of a line, as the code looks at them.
-use Rattle.std.specs.Prelude.{ℕ, Bool, true, false, List, [], get_or, slice_index, replicate, Option, Some, None}
+-- Lines as the definitions speak of them.
+use Rattle.std.specs.Prelude.{ℕ, Bool, true, false, List, [], get_or, slice_index, replicate, Option, Some, None, Result, Ok, Err}
 use Rattle.std.specs.Borrow.{Bor}
 use Rattle.pd_grammar.specs.declared.value.Field.{Field}
-use Rattle.pd_grammar.specs.declared.value.Field.TheVariants as f
 use Rattle.pd_grammar.specs.declared.value.Value.{Value}
-use Rattle.pd_grammar.specs.declared.value.Value.TheVariants as v
-use Rattle.pd_grammar.specs.Words.{split}
+use Rattle.pd_grammar.specs.Texts.{split}
 use Rattle.pd_grammar.specs.Tables.{LineKind}
 use Rattle.pd_grammar.proofs.TableLemmas.{values_at}
+use Rattle.pd_grammar.specs.declared.value.Field.TheVariants as f
+use Rattle.pd_grammar.specs.declared.value.Value.TheVariants as v
 
 -- the first of the words of some bytes
 abbrev pub first_word : List ℕ → List ℕ
@@ -37,3 +38,8 @@ value_by f.Number name n = v.Number n
 -- the line of a kind, of the identifiers and numbers of its fields
 abbrev pub made_of : {L : Type 0} → LineKind L → List (List ℕ) → List ℕ → L
 made_of kind names numbers = kind.make (values_at kind.fields (name_at names) (slice_index numbers))
+
+-- what a line means, where one was read
+abbrev pub seen_by : {X Y E : Type 0} → (X → Y) → Result X E → Result Y E
+seen_by meant (Ok line) = Ok (meant line)
+seen_by meant (Err e) = Err e

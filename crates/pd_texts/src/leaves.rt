@@ -1,10 +1,11 @@
-//! What the lines so far of a pool's text tell of the leaves that devices share.
+//! What the lines so far of a pool's text tell of the leaves that devices share (`thin_restore`).
 
-ghost use Rattle.std.specs.Prelude.{◌≡◌, ◌+◌, ◌-◌, ◌^◌, ◌<◌, ◌≤◌, ◌==◌, ℕ, List, [], ◌∷◌, OnOk, false};
-ghost use Rattle.pd_spells.specs.ThinText.{Line, LeafHead, leaf_line, use_line, map_line, leaf_number, has_device, runs_of_leaf, number_in, has_unused_leaf};
+ghost use Rattle.std.specs.Prelude.{◌≡◌, ◌+◌, ◌-◌, ◌^◌, ◌<◌, ◌≤◌, List, [], ◌∷◌, OnOk, false};
+ghost use Rattle.pd_grammar.specs.ThinText.{Line, LeafHead, leaf_line, use_line, map_line, leaf_number};
+ghost use Rattle.pd_grammar.specs.ThinText.{has_device, runs_of_leaf, number_in, has_unused_leaf};
 ghost use Rattle.pd_texts.specs.ThinLine.{run_of};
 
-use crate::thin_line::Run2;
+use crate::thin_text::Run2;
 use std::alloc::{AllocError, Global};
 
 /// What the map lines of a leaf tell of it, and whether it is used.
@@ -21,7 +22,7 @@ pub(crate) struct ToldLeaf {
 }
 
 impl ToldLeaf {
-    ghost use Rattle.pd_texts.specs.Leaves.{nothing_told, end_told, with_run};
+    ghost use Rattle.pd_texts.specs.ThinState.{nothing_told, end_told, with_run};
 
     /// A leaf without a map line.
     fn nothing() -> ToldLeaf
@@ -89,7 +90,7 @@ pub(crate) struct Leaves {
 }
 
 impl Leaves {
-    ghost use Rattle.pd_texts.specs.Leaves.{AreLeaves, HasRoom, told_at};
+    ghost use Rattle.pd_texts.specs.ThinState.{AreLeaves, HasRoom, told_at};
 
     /// No leaf.
     pub(crate) fn new(alloc: Global) -> Leaves
@@ -102,7 +103,7 @@ impl Leaves {
     }
 
     /// Takes the memory for one leaf more, where it isn't there. It keeps the leaves.
-    pub(crate) fn make_room(&mut self) -> Result<(), AllocError>
+    pub(crate) fn take_memory(&mut self) -> Result<(), AllocError>
         ensures leaves { (before : List Line) → AreLeaves self.old before → AreLeaves self.new before }
         ensures room { OnOk result (HasRoom self.new) }
     {
@@ -111,7 +112,8 @@ impl Leaves {
 
     /// Begins a leaf, in the memory that was taken for it.
     pub(crate) fn begin(&mut self)
-        ensures { HasRoom self.old → (before : List Line) (leaf : LeafHead) → AreLeaves self.old before → AreLeaves self.new (leaf_line leaf ∷ before) }
+        ensures { HasRoom self.old → (before : List Line) (leaf : LeafHead)
+            → AreLeaves self.old before → AreLeaves self.new (leaf_line leaf ∷ before) }
     {
         if self.told.push(ToldLeaf::nothing()).is_ok() {
             self.unused = self.unused.saturating_add(1);
@@ -145,7 +147,8 @@ impl Leaves {
 
     /// Marks a leaf as used.
     pub(crate) fn mark(&mut self, number: u64)
-        ensures { (before : List Line) → AreLeaves self.old before → number < leaf_number before → AreLeaves self.new (use_line number ∷ before) }
+        ensures { (before : List Line) → AreLeaves self.old before
+            → number < leaf_number before → AreLeaves self.new (use_line number ∷ before) }
     {
         let leaf = self.leaf(number);
         if number < self.told.len() as u64 && !leaf.is_used {

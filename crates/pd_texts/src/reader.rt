@@ -1,14 +1,13 @@
-//! The reader of a text of any kind.
+//! The reader of a text of any kind (`thin_restore`, `cache_restore`, `era_restore`).
 
 ghost use Rattle.std.specs.Prelude.{◌≡◌, ◌≤◌, ℕ, List, [], ◌∷◌, length, IfOk, OnOk, Some, None, MatchResult, IfErr};
 ghost use Rattle.pd_image.specs.Source.{KeepsSource};
-ghost use Rattle.pd_texts.specs.Faults.{CountsReads, IsPast, WantsMemory};
+ghost use Rattle.pd_texts.specs.Reader.{CountsReads, IsPast, WantsMemory, fault_of, fault_after_end, text_fault};
 
-use crate::fault::{ReadFault, fault_after_end, fault_of, text_fault};
 use crate::state::{TextLines, TextState, read_line};
 use pd_grammar::TextCause;
 use pd_image::Source;
-use pd_lines::LineReader;
+use pd_lines::{LineFault, LineReader};
 use std::alloc::{AllocError, Global};
 
 /// A text that is read line by line.
@@ -49,7 +48,8 @@ impl<P: TextState> TextReader<P> {
         requires { (S.state source.old).access ≡ 1 }
         ensures lines { (before : List P.Meant) → ReadsOn P.format P.Stands before self.old
             → GivesLine P.format P.Stands (P.first_line self.new.state) P.meant result before self.new }
-        ensures text { (text : List ℕ) (before : List P.Meant) → ReadsOn P.format P.Stands before self.old → LeavesOf P.format text before self.old (S.state source.old).left
+        ensures text { (text : List ℕ) (before : List P.Meant) → ReadsOn P.format P.Stands before self.old
+            → LeavesOf P.format text before self.old (S.state source.old).left
             → GivesOf P.format (P.first_line self.new.state) P.meant result text before self.new (S.state source.new).left }
         ensures past { IfErr result (IsPast (lines_of self.old.reader)) }
         ensures memory { IfErr result (WantsMemory (P.CanWantMemory self.new.state)) }
@@ -66,9 +66,12 @@ impl<P: TextState> TextReader<P> {
     #[inline(always)]
     fn begin<S: Source>(&mut self, source: &mut S) -> Result<(), ReadFault>
         requires { (S.state source.old).access ≡ 1 }
-        ensures lines { (before : List P.Meant) → ReadsOn P.format P.Stands before self.old → OnOk result (ReadsOn P.format P.Stands (begun (P.first_line self.new.state) before) self.new) }
-        ensures text { (text : List ℕ) (before : List P.Meant) → ReadsOn P.format P.Stands before self.old → LeavesOf P.format text before self.old (S.state source.old).left
-            → MatchResult result (λ _. LeavesOf P.format text (begun (P.first_line self.new.state) before) self.new (S.state source.new).left) (RefusesAfter P.format text before) }
+        ensures lines { (before : List P.Meant) → ReadsOn P.format P.Stands before self.old
+            → OnOk result (ReadsOn P.format P.Stands (begun (P.first_line self.new.state) before) self.new) }
+        ensures text { (text : List ℕ) (before : List P.Meant) → ReadsOn P.format P.Stands before self.old
+            → LeavesOf P.format text before self.old (S.state source.old).left
+            → MatchResult result (λ _. LeavesOf P.format text
+            (begun (P.first_line self.new.state) before) self.new (S.state source.new).left) (RefusesAfter P.format text before) }
         ensures past { IfErr result (IsPast (lines_of self.old.reader)) }
         ensures memory { IfErr result (WantsMemory (P.CanWantMemory self.new.state)) }
         ensures onward { lines_of self.old.reader ≤ lines_of self.new.reader }
@@ -85,9 +88,12 @@ impl<P: TextState> TextReader<P> {
     /// Reads the first line.
     fn read_first<S: Source>(&mut self, source: &mut S) -> Result<(), ReadFault>
         requires { (S.state source.old).access ≡ 1 }
-        ensures lines { ReadsOn P.format P.Stands [] self.old → OnOk result (ReadsOn P.format P.Stands (P.first_line self.new.state ∷ []) self.new) }
-        ensures text { (text : List ℕ) → ReadsOn P.format P.Stands [] self.old → LeavesOf P.format text [] self.old (S.state source.old).left
-            → MatchResult result (λ _. LeavesOf P.format text (P.first_line self.new.state ∷ []) self.new (S.state source.new).left) (RefusesAfter P.format text []) }
+        ensures lines { ReadsOn P.format P.Stands [] self.old
+            → OnOk result (ReadsOn P.format P.Stands (P.first_line self.new.state ∷ []) self.new) }
+        ensures text { (text : List ℕ) → ReadsOn P.format P.Stands [] self.old
+            → LeavesOf P.format text [] self.old (S.state source.old).left
+            → MatchResult result (λ _. LeavesOf P.format text (P.first_line self.new.state ∷ []) self.new (S.state source.new).left)
+            (RefusesAfter P.format text []) }
         ensures past { IfErr result (IsPast (lines_of self.old.reader)) }
         ensures memory { IfErr result (WantsMemory (P.CanWantMemory self.new.state)) }
         ensures onward { lines_of self.old.reader ≤ lines_of self.new.reader }
@@ -137,7 +143,8 @@ impl<P: TextState> TextReader<P> {
             → IfOk result (λ line. HasRead P.format P.Stands (P.meant line ∷ before) self.new) }
         ensures text { (text : List ℕ) (before : List P.Meant) → 1 ≤ length before → ReadsOn P.format P.Stands before self.old
             → LeavesOf P.format text before self.old (S.state source.old).left
-            → MatchResult result (λ line. LeavesOf P.format text (P.meant line ∷ before) self.new (S.state source.new).left) (RefusesAfter P.format text before) }
+            → MatchResult result (λ line. LeavesOf P.format text (P.meant line ∷ before) self.new (S.state source.new).left)
+            (RefusesAfter P.format text before) }
         ensures past { IfErr result (IsPast (lines_of self.old.reader)) }
         ensures memory { IfErr result (WantsMemory (P.CanWantMemory self.new.state)) }
         ensures first { P.first_line self.new.state ≡ P.first_line self.old.state }
@@ -145,7 +152,7 @@ impl<P: TextState> TextReader<P> {
         ensures kept { KeepsSource (S.state source.old) (S.state source.new) }
         ensures faults { CountsReads result (S.state source.old).faults (S.state source.new).faults }
     {
-        match self.state.make_room() {
+        match self.state.take_memory() {
             Ok(()) => {}
             Err(_) => return Err(ReadFault::Memory),
         }
@@ -176,6 +183,59 @@ impl<P: TextState> TextReader<P> {
             Ok(true) => Err(text_fault(self.reader.lines(), TextCause::AfterEnd)),
             Ok(false) => Ok(None),
             Err(fault) => Err(fault_after_end(fault)),
+        }
+    }
+}
+
+// Where and why a text is refused (`thin_restore`, `cache_restore`, `era_restore`).
+
+/// Where a text is refused, and why.
+#[derive(Clone, Copy, Debug, PartialEq, Eq)]
+pub struct TextFault {
+    /// The number of the line, from 1; a line past the one with number 2^64 - 1 has that number too.
+    pub line: u64,
+    /// The first cause, in the order in which they are looked at.
+    pub cause: TextCause,
+}
+
+/// Why a text couldn't be read.
+#[derive(Clone, Copy, Debug, PartialEq, Eq)]
+pub enum ReadFault {
+    /// There wasn't enough memory.
+    Memory,
+    /// The source has failed.
+    Source,
+    /// The text is refused.
+    Text(TextFault),
+}
+
+/// A refusal of the line with this number.
+pub(crate) fn text_fault(line: u64, cause: TextCause) -> ReadFault
+    ensures { result ≡ text_fault line cause }
+{
+    ReadFault::Text(TextFault { line, cause })
+}
+
+/// Why a line before the end isn't read, where a line with other bytes is refused for this cause.
+pub(crate) fn fault_of(fault: LineFault, other: TextCause) -> ReadFault
+    ensures { result ≡ fault_of other fault }
+{
+    match fault {
+        LineFault::Source => ReadFault::Source,
+        LineFault::TooLong(line) => text_fault(line, TextCause::TooLong),
+        LineFault::NotText(line) => text_fault(line, other),
+        LineFault::Unended(line) => text_fault(line, TextCause::NoEnd),
+    }
+}
+
+/// Why the end of the input isn't read after the last line.
+pub(crate) fn fault_after_end(fault: LineFault) -> ReadFault
+    ensures { result ≡ fault_after_end fault }
+{
+    match fault {
+        LineFault::Source => ReadFault::Source,
+        LineFault::TooLong(line) | LineFault::NotText(line) | LineFault::Unended(line) => {
+            text_fault(line, TextCause::AfterEnd)
         }
     }
 }

@@ -1,16 +1,14 @@
-//! A kind of text, as its reader sees it.
+//! A kind of text, as its reader sees it (`thin_restore`, `cache_restore`, `era_restore`).
 
 ghost use Rattle.std.specs.Prelude.{◌≡◌, ◌==◌, ◌≤◌, ℕ, List, [], ◌∷◌, length, Option, Some, None, is_none, true, false, IfOk, IfErr, OnOk};
 ghost use Rattle.std.specs.List.{list_all};
 ghost use Rattle.std.specs.Option.{option_map};
-ghost use Rattle.pd_grammar.specs.Words.{is_printable};
-ghost use Rattle.pd_grammar.specs.Texts.{TextFormat, read, tested};
+ghost use Rattle.pd_grammar.specs.Texts.{is_printable, TextFormat, read, tested};
 ghost use Rattle.pd_grammar.specs.Tables.{LineKind, Table, format_of, kind_named, may_stand};
-ghost use Rattle.pd_texts.specs.Seen.{seen_by};
-ghost use Rattle.pd_texts.specs.Words.{made_of};
+ghost use Rattle.pd_texts.specs.Words.{seen_by, made_of};
+ghost use Rattle.pd_texts.specs.ThinState.{is_second, is_body};
 
-use crate::values::{Names, Numbers, read_values};
-use crate::words::cut_word;
+use crate::words::{Names, Numbers, cut_word, read_values};
 use pd_grammar::{Field, TextCause};
 use std::alloc::{AllocError, Global};
 
@@ -70,7 +68,7 @@ pub trait TextState: TextLines {
         ensures after { Stands self.old [] → result ≡ true → Stands self.new (first_line self.new ∷ []) };
 
     /// Takes the memory that the next line may want.
-    fn make_room(&mut self) -> Result<(), AllocError>
+    fn take_memory(&mut self) -> Result<(), AllocError>
         ensures stands { (before : List Meant) → Stands self.old before → Stands self.new before }
         ensures first { first_line self.new ≡ first_line self.old }
         ensures room { OnOk result (HasRoom self.new) }
@@ -143,5 +141,40 @@ pub(crate) fn read_line<P: TextState>(
     match read_values(P::fields(kind), rest, &mut names, &mut numbers) {
         Ok(()) => state.take(kind, &names, &numbers),
         Err(cause) => Err(cause),
+    }
+}
+
+// Which line of a text may come next (`thin_restore`, `cache_restore`, `era_restore`).
+
+/// Which line may come next.
+#[derive(Clone, Copy, Debug, PartialEq, Eq)]
+pub enum Stage {
+    /// The first line.
+    First,
+    /// Line 2, which says what the text is of.
+    Second,
+    /// A later line.
+    Body,
+}
+
+impl Stage {
+    /// Whether line 2 comes next.
+    pub fn is_second(self) -> bool
+        ensures { result ≡ is_second self }
+    {
+        match self {
+            Stage::Second => true,
+            Stage::First | Stage::Body => false,
+        }
+    }
+
+    /// Whether a later line comes next.
+    pub fn is_body(self) -> bool
+        ensures { result ≡ is_body self }
+    {
+        match self {
+            Stage::Body => true,
+            Stage::First | Stage::Second => false,
+        }
     }
 }

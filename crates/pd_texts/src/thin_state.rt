@@ -1,17 +1,15 @@
-//! What the lines so far of a pool's text say of the next one.
+//! What the lines so far of a pool's text say of the next one (`thin_restore`).
 
-ghost use Rattle.std.specs.Prelude.{◌≡◌, ◌==◌, ◌≤◌, ◌<◌, List, ◌∷◌, length, IfOk, true, false};
+ghost use Rattle.std.specs.Prelude.{◌≡◌, ◌≤◌, ◌<◌, List, ◌∷◌, length, IfOk};
 ghost use Rattle.pd_grammar.specs.Texts.{tested};
-ghost use Rattle.pd_spells.specs.ThinText.{Line, pool_kind, leaf_kind, device_kind, use_kind, map_kind, end_kind, use_line, leaf_number, thin_tests, is_out_of_order, is_mapped_otherwise};
-ghost use Rattle.pd_texts.specs.Seen.{seen_by};
-ghost use Rattle.pd_texts.specs.Words.{made_of};
+ghost use Rattle.pd_grammar.specs.ThinText.{Line, pool_kind, leaf_kind, device_kind, use_kind, map_kind, end_kind, thin_tests};
+ghost use Rattle.pd_texts.specs.Words.{seen_by, made_of};
 ghost use Rattle.pd_texts.specs.ThinLine.{thin_meant};
 
 use crate::leaves::Leaves;
-use crate::stage::Stage;
-use crate::state::{TextLines, TextState};
-use crate::thin_line::{Run2, ThinLine};
-use crate::values::{Names, Numbers};
+use crate::state::{Stage, TextLines, TextState};
+use crate::thin_text::{Run2, ThinLine};
+use crate::words::{Names, Numbers};
 use pd_grammar::{Field, TextCause};
 use pd_value::Details;
 use std::alloc::{AllocError, Global};
@@ -52,8 +50,8 @@ impl TextLines for ThinState {
 
 impl TextState for ThinState {
     ghost use Rattle.std.specs.Prelude.{refl};
-    ghost use Rattle.pd_spells.specs.ThinText.{Line, pool_table, pool_format};
-    ghost use Rattle.pd_texts.specs.ThinKind.{kind_meant};
+    ghost use Rattle.pd_grammar.specs.ThinText.{Line, pool_table, pool_format};
+    ghost use Rattle.pd_texts.specs.ThinLine.{kind_meant};
     ghost use Rattle.pd_texts.specs.ThinLine.{thin_meant};
     ghost use Rattle.pd_texts.specs.ThinState.{ThinStands, first_of, HasRoomNext, CanWant, pool_begins};
     ghost use Rattle.pd_texts.specs.ThinLaws.{pool_header, pool_ends};
@@ -113,9 +111,9 @@ impl TextState for ThinState {
         }
     }
 
-    fn make_room(&mut self) -> Result<(), AllocError> {
+    fn take_memory(&mut self) -> Result<(), AllocError> {
         if self.is_shared & !self.has_device {
-            self.leaves.make_room()
+            self.leaves.take_memory()
         } else {
             Ok(())
         }
@@ -157,7 +155,7 @@ impl TextState for ThinState {
         }
     }
 
-    #[tactic(auto, using(crate::proofs::StageLemmas::second_stage, crate::proofs::StageLemmas::body_stage))]
+    #[tactic(auto, using(crate::proofs::StateLemmas::second_stage, crate::proofs::StateLemmas::body_stage))]
     fn may_stand(&self, kind: ThinKind) -> bool {
         match kind {
             ThinKind::Map => {
@@ -195,11 +193,11 @@ impl TextState for ThinState {
 }
 
 impl ThinState {
-    ghost use Rattle.pd_texts.specs.Leaves.{HasRoom};
-    ghost use Rattle.pd_texts.specs.ThinState.{ThinStands, HasRoomNext, version_after};
+    ghost use Rattle.pd_texts.specs.ThinState.{HasRoom};
+    ghost use Rattle.pd_texts.specs.ThinState.{ThinStands, version_after};
 
     /// The text's version, 1 or 2, once two lines were read, and 0 before.
-    #[tactic(auto, using(crate::proofs::StageLemmas::body_stage))]
+    #[tactic(auto, using(crate::proofs::StateLemmas::body_stage))]
     pub(crate) fn version(&self) -> u32
         ensures { (before : List Line) → ThinStands self.now before → result ≡ version_after before }
     {
@@ -265,10 +263,10 @@ impl ThinState {
         if number >= self.leaves.number() {
             return Err(TextCause::OutOfRange);
         }
-        if self.begins_below(number) {
+        if (self.leaves.leaf(number).least() as u128) < self.piece_end {
             return Err(TextCause::Order);
         }
-        if self.has_more(number) {
+        if self.unmapped < self.leaves.leaf(number).entries() {
             return Err(TextCause::MappedDiffers);
         }
         let leaf = self.leaves.leaf(number);
@@ -277,22 +275,6 @@ impl ThinState {
         self.unmapped = self.unmapped.saturating_sub(leaf.entries());
         self.leaves.mark(number);
         Ok(Some(ThinLine::UseLeaf { number }))
-    }
-
-    /// Whether a leaf begins below the end of the last piece.
-    fn begins_below(&self, number: u64) -> bool
-        ensures { (before : List Line) → ThinStands self.now before → number < leaf_number before
-            → result ≡ is_out_of_order before (use_line number) }
-    {
-        (self.leaves.leaf(number).least() as u128) < self.piece_end
-    }
-
-    /// Whether a leaf is of more mappings than the last device lacks.
-    fn has_more(&self, number: u64) -> bool
-        ensures { (before : List Line) → ThinStands self.now before → number < leaf_number before
-            → result ≡ is_mapped_otherwise before (use_line number) }
-    {
-        self.unmapped < self.leaves.leaf(number).entries()
     }
 
     /// Takes a leaf line of these values, in the memory that was taken for it.

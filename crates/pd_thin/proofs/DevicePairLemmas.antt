@@ -10,10 +10,9 @@ use Rattle.pd_value.specs.declared.thin.Root.{Root}
 use Rattle.pd_value.specs.declared.thin.Details.{Details}
 use Rattle.pd_graph.specs.declared.audit.Audit.{Audit}
 use Rattle.pd_graph.specs.Audit.{blocks_of, has_rule_at}
-use Rattle.pd_whole.specs.Ascending.{IsUp}
-use Rattle.pd_whole.specs.Charges.{Charges}
-use Rattle.pd_whole.proofs.ChargeLemmas.{whole_bad-cons, keeps_none, keeps_both}
-use Rattle.pd_whole.proofs.UpLemmas.{up_lower}
+use Rattle.pd_check.specs.Known.{IsUp, Charges}
+use Rattle.pd_check.proofs.SharedLemmas.{whole_bad-cons, keeps_none, keeps_both}
+use Rattle.pd_check.proofs.KnownLemmas.{up_lower}
 use Rattle.pd_thin.specs.declared.device_pairs.Turn.TheVariants.{Both, Top, Detail}
 use Rattle.pd_thin.specs.DevicePairs.{firsts, turn_of, mapped_test, mapped_of, IsLeft, IsOnWay}
 

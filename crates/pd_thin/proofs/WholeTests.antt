@@ -1,30 +1,80 @@
 -- The tests of a whole pool, put together.
-use Rattle.std.proofs.Common.{◌≡◌, inl, inr, ℕ, suc, ◌+◌, ◌*◌, ◌≤◌, Bool, true, false, ◌&&◌, ◌||◌, cond, nat_eq, nat_lt, List, [], ◌∷◌, ◌++◌, length, map, Option, IfSome, Result, Ok, Err, refl, sym, ap, subst, ◌∙◌, arith}
-use Rattle.std.specs.List.{flat_map}
+use Rattle.std.proofs.Common.{◌≡◌, ℕ, Bool, true, false, ◌&&◌, ◌||◌, cond, nat_eq, List, [], ◌∷◌, ◌++◌, map, filter, refl, sym, ap, ◌∙◌, inl, inr, suc, ◌+◌, ◌*◌, ◌≤◌, nat_lt, length, Option, IfSome, Result, Ok, Err, subst, arith}
+use Rattle.std.specs.List.{list_any, flat_map}
 use Rattle.std.specs.Result.{OnOk}
 use Rattle.std.proofs.lemmas.Option.{IfSome_then}
 use Rattle.std.proofs.lemmas.Bool.{and_from, both_ways, lt-ltb, cases_eq}
-use Rattle.pd_kinds.specs.declared.kind.Kind.TheVariants.{Thin}
 use Rattle.pd_kinds.specs.declared.rule.Rule.{Rule}
+use Rattle.pd_kinds.specs.Graph.{Graph, role_of, nodes, block_at}
+use Rattle.pd_kinds.specs.Whole.{WholeTest, whole_bad, bitmap_tests, Roots, device_test, mapped_tests, thin_roots, thin_whole, roots_in}
+use Rattle.pd_kinds.specs.declared.kind.Kind.TheVariants.{Thin}
 use Rattle.pd_kinds.specs.Bitmap.{bitmaps_for}
-use Rattle.pd_kinds.specs.Graph.{Graph, block_at, nodes}
-use Rattle.pd_kinds.specs.Layout.{graph_of}
 use Rattle.pd_kinds.specs.Lawful.{IsLawful}
 use Rattle.pd_kinds.specs.Stages.{IsReached, checked_of, thin_checked}
-use Rattle.pd_kinds.specs.ThinSuper.{ThinFields, thin_fields}
-use Rattle.pd_kinds.specs.ThinFormat.{thin_graph}
-use Rattle.pd_kinds.specs.Whole.{Roots, WholeTest, whole_bad, bitmap_tests, device_test, mapped_tests, thin_roots, thin_whole, roots_in}
-use Rattle.pd_laws.specs.InOrder.{AreInOrder}
+use Rattle.pd_kinds.specs.ThinFormat.{ThinFields, thin_fields, thin_graph}
+use Rattle.pd_kinds.proofs.KindLemmas.{data_blocks_are}
+use Rattle.pd_kinds.proofs.ResultLemmas.{if_both}
+use Rattle.pd_kinds.specs.InOrder.{AreInOrder}
 use Rattle.pd_graph.specs.declared.audit.Audit.{Audit}
-use Rattle.pd_graph.specs.Audit.{blocks_of, KeepsButRules}
-use Rattle.pd_graph.proofs.AnyLemmas.{if_both}
-use Rattle.pd_check.specs.Whole.{IsOrdered}
+use Rattle.pd_graph.specs.Audit.{KeepsButRules, blocks_of}
 use Rattle.pd_tree.specs.Below.{nodes_below}
-use Rattle.pd_tree.specs.TreeRoles.{IsTreeRole}
-use Rattle.pd_whole.specs.Charges.{Charges}
-use Rattle.pd_whole.proofs.ChargeLemmas.{whole_bad-append, whole_bad-cons, charges_none, charges_same, charges_then}
-use Rattle.pd_thin.proofs.PoolLemmas.{pool_stays}
+use Rattle.pd_tree.specs.Search.{IsTreeRole}
+use Rattle.pd_check.specs.Known.{Charges}
+use Rattle.pd_check.proofs.KnownLemmas.{known_stays}
+use Rattle.pd_check.proofs.SharedLemmas.{whole_bad-append, whole_bad-cons, charges_same, charges_then, charges_none}
+use Rattle.pd_check.specs.Check.{IsOrdered}
 use Rattle.pd_thin.specs.Pool.{IsKnownPool, IsReady, AreReached, index_test, pool_tests, held_tests}
+
+-- The rules of a whole pool.
+
+-- what is known of a pool stays while rules are added
+pub pool_stays : (graph : Graph) (image : List (List ℕ)) (old new : Audit) → KeepsButRules old new → IsKnownPool graph image old → IsKnownPool graph image new
+pool_stays graph image old new kept pool = record { known = known_stays graph image old new kept pool.known; ordered = pool.ordered; trees = pool.trees }
+
+-- bitmaps of either role
+any_cond : (t : WholeTest → Bool) (f : ℕ → WholeTest) (a : Bool) (x : ℕ) (xs : List ℕ) → list_any t (map f (cond a (x ∷ xs) xs)) ≡ ((a && t (f x)) || list_any t (map f xs))
+any_cond t f true x xs = refl
+any_cond t f false x xs = refl
+
+either : (a b here first second : Bool) → (((a || b) && here) || (first || second)) ≡ (((a && here) || first) || ((b && here) || second))
+either true true true first second = refl
+either true true false first second = refl
+either true false true first second = refl
+either true false false first second = refl
+either false true true true second = refl
+either false true true false second = refl
+either false true false first second = refl
+either false false here first second = refl
+
+any_either : (t : WholeTest → Bool) (f : ℕ → WholeTest) (p q : ℕ → Bool) (xs : List ℕ)
+    → list_any t (map f (filter (λ x. p x || q x) xs)) ≡ (list_any t (map f (filter p xs)) || list_any t (map f (filter q xs)))
+any_either t f p q [] = refl
+any_either t f p q (x ∷ xs) =
+    any_cond t f (p x || q x) x (filter (λ y. p y || q y) xs)
+    ∙ (ap (λ (rest : Bool). ((p x || q x) && t (f x)) || rest) (any_either t f p q xs)
+    ∙ (either (p x) (q x) (t (f x)) (list_any t (map f (filter p xs))) (list_any t (map f (filter q xs)))
+    ∙ sym (rw (any_cond t f (p x) x (filter p xs), any_cond t f (q x) x (filter q xs)) refl)))
+
+either_bitmap : (graph : Graph) (image : List (List ℕ)) (one two b : ℕ) (wanted : Rule)
+    → whole_bad (bitmap_tests graph image (λ role. nat_eq role one || nat_eq role two)) b wanted
+    ≡ (whole_bad (bitmap_tests graph image (λ role. nat_eq role one)) b wanted || whole_bad (bitmap_tests graph image (λ role. nat_eq role two)) b wanted)
+unfolding whole_bad bitmap_tests
+either_bitmap graph image one two b wanted = any_either _ _ (λ p. nat_eq (role_of p) one) (λ p. nat_eq (role_of p) two) (nodes graph image)
+
+-- the index and the bitmaps of both roles
+pub noted_tests : (graph : Graph) (image : List (List ℕ)) (test : WholeTest) (one two : ℕ) (a b c d : Audit) → Charges (test ∷ []) a b
+    → Charges (bitmap_tests graph image (λ role. nat_eq role one)) b c → Charges (bitmap_tests graph image (λ role. nat_eq role two)) c d
+    → Charges (test ∷ bitmap_tests graph image (λ role. nat_eq role one || nat_eq role two)) a d
+noted_tests graph image test one two a b c d index first second =
+    let ones = bitmap_tests graph image (λ role. nat_eq role one) in
+    let twos = bitmap_tests graph image (λ role. nat_eq role two) in
+    let all = bitmap_tests graph image (λ role. nat_eq role one || nat_eq role two) in
+    charges_same ((test ∷ []) ++ (ones ++ twos)) (test ∷ all) a d
+    (λ n wanted within.
+    whole_bad-append (test ∷ []) (ones ++ twos) n wanted
+    ∙ (ap (λ (x : Bool). whole_bad (test ∷ []) n wanted || x) (whole_bad-append ones twos n wanted ∙ sym (either_bitmap graph image one two n wanted))
+    ∙ sym (whole_bad-cons test all n wanted)))
+    (charges_then (test ∷ []) (ones ++ twos) a b d index (charges_then ones twos b c d first second))
 
 -- what follows of a call that answered Ok
 pub on_ok : {T E : Type 0} {P Q : Type 0} → (result : Result T E) → (P → Q) → OnOk result P → OnOk result Q
@@ -75,10 +125,6 @@ roots_by graph image front one two false b wanted =
     behind front (pool_tests graph image one ++ pool_tests graph image two) _ b wanted
     (behind (device_test graph image one ∷ []) (mapped_tests graph image one ++ pool_tests graph image two) _ b wanted
     (swapped (device_test graph image two) (mapped_tests graph image one) (mapped_tests graph image two) b wanted))
-
-data_blocks_are : (first : List ℕ) → (thin_graph first).data_blocks ≡ (thin_fields first).data_map.blocks
-unfolding thin_graph graph_of
-data_blocks_are first = refl
 
 -- all tests of a pool
 pool_whole : (image : List (List ℕ)) (b : ℕ) (wanted : Rule)

@@ -1,17 +1,23 @@
 -- A mapping tree and the details tree beside it, entry by entry.
-use Rattle.std.specs.Prelude.{◌≡◌, ℕ, ◌/◌, ◌%◌, ◌^◌, ◌<◌, Bool, true, ◌==◌, ◌&&◌, ◌||◌, not, nat_lt, if◌then◌else◌, List, [], map, filter, Option, Some, None, IfNone}
+-- What is left of a cursor whose next entry is at hand.
+-- What is left of a mapping tree and the details tree beside it.
+use Rattle.std.specs.Prelude.{◌≡◌, ℕ, ◌/◌, ◌%◌, ◌^◌, ◌<◌, Bool, true, ◌==◌, ◌&&◌, ◌||◌, not, nat_lt, if◌then◌else◌, List, [], map, filter, Option, Some, None, IfNone, zero, suc, ◌++◌, ◌+◌, length}
 use Rattle.std.specs.List.{flat_map}
 use Rattle.std.specs.Str.{bytes_eq}
+use Rattle.std.specs.Option.{option_to_list}
 use Rattle.pd_kinds.specs.declared.rule.Rule.{Rule}
-use Rattle.pd_kinds.specs.declared.rule.Rule.TheVariants as r
 use Rattle.pd_kinds.specs.Whole.{WholeTest, whole_bad}
+use Rattle.pd_kinds.specs.declared.rule.Rule.TheVariants as r
 use Rattle.pd_value.specs.declared.thin.Root.{Root}
 use Rattle.pd_value.specs.declared.thin.Details.{Details}
 use Rattle.pd_graph.specs.declared.audit.Audit.{Audit}
 use Rattle.pd_graph.specs.Audit.{blocks_of, has_rule_at, KeepsButRules}
-use Rattle.pd_whole.specs.Ascending.{IsUp}
+use Rattle.pd_tree.specs.Cursor.{cursor_items, cursor_nodes, cursor_number}
+use Rattle.pd_check.specs.Known.{IsUp}
 use Rattle.pd_thin.specs.declared.device_pairs.Turn.{Turn}
 use Rattle.pd_thin.specs.declared.device_pairs.Turn.TheVariants.{End, Both, Top, Detail}
+use Rattle.pd_thin.specs.declared.device_pairs.Peeked.{Peeked}
+use Rattle.pd_thin.specs.declared.device_pairs.DeviceCursors.{DeviceCursors}
 
 -- the keys of entries
 abbrev pub firsts : {X : Type 0} → List (ℕ × X) → List ℕ
@@ -65,3 +71,32 @@ pub record IsOnWay (below : ℕ → ℕ) (old new : Audit) (top : Option (ℕ ×
 abbrev pub found_same : Option Bool → Bool
 found_same None = true
 found_same (Some both) = both
+
+-- the entries: the one at hand, and then those of the cursor
+abbrev pub peeked_items : {V : Type 0} → ℕ → (ℕ → V) → List (List ℕ) → Peeked V → List (ℕ × V)
+peeked_items {V} size decoded image ahead = option_to_list ahead.first ++ cursor_items size decoded image ahead.cursor
+
+-- the blocks that are still to be read
+abbrev pub peeked_nodes : {V : Type 0} → ℕ → List (List ℕ) → Peeked V → List ℕ
+peeked_nodes size image ahead = cursor_nodes size image ahead.cursor
+
+-- a number that falls with each entry
+abbrev pub number_with : {X : Type 0} → Option X → ℕ → ℕ
+number_with None number = zero
+number_with (Some x) number = suc number
+
+abbrev pub peeked_number : {V : Type 0} → ℕ → Peeked V → ℕ
+peeked_number size ahead = number_with ahead.first (cursor_number size ahead.cursor)
+
+-- how many reads it takes at the most
+abbrev pub cursors_reads : List (List ℕ) → DeviceCursors → ℕ
+cursors_reads image cursors = length (peeked_nodes 8 image cursors.tops) + length (peeked_nodes 24 image cursors.details)
+
+-- a number that falls with each turn
+abbrev pub cursors_number : DeviceCursors → ℕ
+cursors_number cursors = peeked_number 8 cursors.tops + peeked_number 24 cursors.details
+
+-- no entry of either tree is at hand
+pub record HaveNoEntry (cursors : DeviceCursors) : Type 0 where
+  pub tops : cursors.tops.first ≡ None
+  pub details : cursors.details.first ≡ None

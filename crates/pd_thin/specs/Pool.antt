@@ -1,17 +1,17 @@
 -- What the rules of a whole pool are looked at over.
-use Rattle.std.specs.Prelude.{◌≡◌, ℕ, ◌==◌, if◌then◌else◌, List, [], ◌∷◌}
-use Rattle.pd_kinds.specs.declared.rule.Rule.TheVariants as r
-use Rattle.pd_kinds.specs.Graph.{Graph, block_at}
+-- The copies of a thin pool's superblock: the superblock itself, in role 0, and the held copy of it, in role 1.
+use Rattle.std.specs.Prelude.{◌≡◌, ℕ, ◌==◌, if◌then◌else◌, List, [], ◌∷◌, Bool}
+use Rattle.pd_kinds.specs.Graph.{Graph, block_at, Edge}
 use Rattle.pd_kinds.specs.Stages.{IsReached}
-use Rattle.pd_kinds.specs.ThinSuper.{thin_fields}
-use Rattle.pd_kinds.specs.ThinFormat.{thin_graph}
+use Rattle.pd_kinds.specs.ThinFormat.{thin_fields, thin_graph, thin_super_bad, thin_super_edges, thin_held_bad, held_edges}
 use Rattle.pd_kinds.specs.Trees.{entries_below, keys_of}
 use Rattle.pd_kinds.specs.Whole.{Roots, WholeTest, roots_in, is_not_counting, device_test, mapped_tests}
-use Rattle.pd_laws.specs.InOrder.{AreInOrder}
+use Rattle.pd_kinds.specs.InOrder.{AreInOrder}
+use Rattle.pd_kinds.specs.declared.rule.Rule.{Rule}
+use Rattle.pd_kinds.specs.declared.rule.Rule.TheVariants as r
 use Rattle.pd_graph.specs.declared.audit.Audit.{Audit}
-use Rattle.pd_tree.specs.Roots.{HasThinRoots}
-use Rattle.pd_tree.specs.TreeRoles.{HasThinTrees}
-use Rattle.pd_whole.specs.Known.{IsKnown}
+use Rattle.pd_tree.specs.Search.{HasThinRoots, HasThinTrees}
+use Rattle.pd_check.specs.Known.{IsKnown}
 
 -- the index of the data bitmaps counts from 0 to the last bitmap
 abbrev pub index_test : Graph → List (List ℕ) → ℕ → ℕ → WholeTest
@@ -48,3 +48,9 @@ pub record IsReady (first : List ℕ) (image : List (List ℕ)) (audit : Audit) 
   pub roots : HasThinRoots (thin_graph first) image (thin_fields first)
   pub held : ((thin_fields first).held_root ≡ 0 → ⊥) → IsReached (thin_graph first) image (thin_fields first).held_root 1
   pub held_roots : ((thin_fields first).held_root ≡ 0 → ⊥) → AreReached (thin_graph first) image (roots_in (block_at image (thin_fields first).held_root))
+
+abbrev pub super_copy_rules : ℕ → ℕ → ℕ → List ℕ → Rule → Bool
+super_copy_rules nr role place block = if role == 0 then thin_super_bad nr block else thin_held_bad nr place block
+
+abbrev pub super_copy_edges : ℕ → List ℕ → List Edge
+super_copy_edges role block = if role == 0 then thin_super_edges (thin_fields block) else held_edges block

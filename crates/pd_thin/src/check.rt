@@ -1,11 +1,11 @@
-//! The check of a thin pool's metadata.
+//! The check of a thin pool's metadata (`thin_check`).
 
 ghost use Rattle.std.specs.Prelude.{◌≡◌, ◌+◌, IfOk, IfSome};
 ghost use Rattle.pd_kinds.specs.declared.kind.Kind.TheVariants.{Thin};
 ghost use Rattle.pd_kinds.specs.declared.kind.Stage.TheVariants.{Counts};
 ghost use Rattle.pd_kinds.specs.CheckFault.{CountsCheckFault, StopsEarly};
 ghost use Rattle.pd_kinds.specs.Stages.{faults};
-ghost use Rattle.pd_kinds.specs.Report.{report_of};
+ghost use Rattle.pd_kinds.specs.Rule.{report_of};
 ghost use Rattle.pd_image.specs.Device.{IsAttached, OnlyReads};
 ghost use Rattle.pd_check.specs.Check.{MayWantMemory, ReadsFew};
 
@@ -47,7 +47,7 @@ impl Metadata for ThinTable {
         })
     }
 
-    fn room(alloc: Global, _b: &Block) -> Result<DeviceCursors, AllocError> {
+    fn whole_memory(alloc: Global, _b: &Block) -> Result<DeviceCursors, AllocError> {
         DeviceCursors::new(alloc)
     }
 
@@ -81,7 +81,8 @@ pub fn check_thin<D: Device>(alloc: Global, dev: &mut D, until: Stage) -> Result
     ensures report { IfOk result (λ report. IfSome (D.state dev.old).held (λ image. report ≡ report_of (faults Thin until image))) }
     ensures memory { MayWantMemory Thin until (D.state dev.old).held result }
     ensures early { (until ≡ Counts → ⊥) → StopsEarly result ((D.state dev.old).reads + 1) (D.state dev.new).reads }
-    ensures reads { IfSome (D.state dev.old).held (λ image. ReadsFew Thin until image ((D.state dev.old).reads + 1) (D.state dev.new).reads) }
+    ensures reads { IfSome (D.state dev.old).held
+        (λ image. ReadsFew Thin until image ((D.state dev.old).reads + 1) (D.state dev.new).reads) }
     ensures kept { OnlyReads (D.state dev.old) (D.state dev.new) }
     ensures faults { CountsCheckFault result (D.state dev.old).faults (D.state dev.new).faults }
 {

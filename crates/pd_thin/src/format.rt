@@ -1,4 +1,4 @@
-//! A thin pool's metadata as a table.
+//! A thin pool's metadata as a table (`thin_check`).
 
 use pd_kinds::{Block, Edges, Rules, thin_role};
 use pd_layouts::{Layout, LeafValue, Names, Table, Tabled};
@@ -17,8 +17,8 @@ pub type ThinFormat = Tabled<ThinTable>;
 
 impl Table for ThinTable {
     ghost use Rattle.pd_kinds.specs.ThinFormat.{thin_layout};
-    ghost use Rattle.pd_laws.proofs.ThinTable.{thin_table};
-    ghost use Rattle.pd_thin.specs.Copies.{super_copy_edges, super_copy_rules};
+    ghost use Rattle.pd_kinds.proofs.ThinTable.{thin_table};
+    ghost use Rattle.pd_thin.specs.Pool.{super_copy_edges, super_copy_rules};
 
     const ROLES: u8 = thin_role::ROLES;
 

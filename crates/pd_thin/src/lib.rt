@@ -1,10 +1,9 @@
-//! A thin pool's metadata: its format, as a walk sees it, and its check.
+//! A thin pool's metadata: its format, as a walk sees it, and its check (`thin_check`).
 #![tactic(auto)]
 
 mod check;
 mod device_pairs;
 mod format;
-mod peeked;
 mod pool;
 
 pub use check::check_thin;

@@ -3,18 +3,16 @@ use Rattle.std.proofs.Common.{◌≡◌, ◌≢◌, inl, inr, ℕ, ◌≤◌, Li
 use Rattle.std.specs.Prelude.{MatchResult}
 use Rattle.pd_kinds.specs.Objects.{DeviceState, SourceState, SinkState, Rose, Appends, AppendsFront}
 use Rattle.pd_kinds.specs.Crash.{IsUntouched}
-use Rattle.pd_spells.specs.Lines.{device_line, sink_line, memory_line}
-use Rattle.pd_answers.specs.Answer.{Objects, AreFresh, NoFaults, DeviceRose, StreamRose, failure_line, Use, unused, reading, writing, IsUsed, AppendsFrontOfOne}
-use Rattle.pd_kinds.proofs.AppendLemmas.{appends_none, front_none, front_from_whole}
-use Rattle.pd_answers.specs.Terms.{Terms, Uses, AreInOrder, AreKept, AreUsed, ComesAfter, IsKept, Changes, IsAnswered}
+use Rattle.pd_kinds.proofs.ListLemmas.{appends_none, front_none, front_from_whole}
+use Rattle.pd_grammar.specs.Lines.{device_line, sink_line, memory_line}
+use Rattle.pd_answers.specs.Terms.{Objects, AreFresh, NoFaults, DeviceRose, StreamRose, failure_line, Use, unused, reading, writing, IsUsed, AppendsFrontOfOne, Terms, Uses, AreInOrder, AreKept, AreUsed, ComesAfter, IsKept, Changes, IsAnswered}
 use Rattle.pd_tools.specs.declared.ending.Ending.{Ending}
 use Rattle.pd_tools.specs.declared.ending.Ending.TheVariants.{Done, Faulty, Refused, NoRoom, BlockSize, NoRoots}
-use Rattle.pd_tools.specs.declared.stop.Stop.{Stop}
-use Rattle.pd_tools.specs.declared.stop.Stop.TheVariants.{Device, Stream, Memory}
-use Rattle.pd_tools.specs.Ending.{TellsEnd, ending_line, ending_status}
+use Rattle.pd_tools.specs.declared.ending.Stop.{Stop}
+use Rattle.pd_tools.specs.declared.ending.Stop.TheVariants.{Device, Stream, Memory}
+use Rattle.pd_tools.specs.Ending.{TellsEnd, ending_line, ending_status, PutsLine, IsAttachedNotes}
 use Rattle.pd_tools.specs.Stop.{stop_line, stop_status}
-use Rattle.pd_tools.specs.Work.{AreInTurn, IsWork, IsFinished, IsStopped, IsFollowed, AreFollowed, HasCause}
-use Rattle.pd_tools.specs.Notes.{PutsLine, IsAttachedNotes}
+use Rattle.pd_tools.specs.Task.{AreInTurn, IsWork, IsFinished, IsStopped, IsFollowed, AreFollowed, HasCause}
 
 -- a count that was 0 and didn't change hasn't risen
 pub not_risen : (old new : ℕ) → old ≡ 0 → new ≡ old → Rose old new → ⊥

@@ -6,34 +6,32 @@ use Rattle.pd_kinds.specs.declared.kind.Kind.TheVariants.{Thin, Cache, Era}
 use Rattle.pd_kinds.specs.declared.kind.Stage.TheVariants.{Super, Counts}
 use Rattle.pd_kinds.specs.Flagged.{kind_of}
 use Rattle.pd_kinds.specs.Objects.{SinkState}
-use Rattle.pd_kinds.specs.Report.{report_of}
+use Rattle.pd_kinds.specs.Rule.{report_of}
 use Rattle.pd_kinds.specs.Stages.{faults}
-use Rattle.pd_answers.specs.Answer.{Objects, AreFresh}
-use Rattle.pd_answers.specs.Requests.{Request, check, passing_check, check_and_clear, query, restore, repair, search, repair_named, dry_search, repair_cache, generate, rehearse, writeback, shrink}
-use Rattle.pd_answers.specs.CacheRepairs as caches
+use Rattle.pd_grammar.specs.Early.{is_cache_early, is_era_early}
+use Rattle.pd_grammar.specs.CacheText.{IsCacheVerdict}
+use Rattle.pd_grammar.specs.EraText.{IsEraVerdict}
+use Rattle.pd_laid.specs.PoolText.{IsPoolTextVerdict, is_pool_text_early}
+use Rattle.pd_laid.specs.LaidThin.{laid_shape}
+use Rattle.pd_laid.specs.LaidCache.{laid_cache}
+use Rattle.pd_laid.specs.LaidEra.{laid_era}
+use Rattle.pd_answers.specs.Terms.{Objects, AreFresh, Terms}
+use Rattle.pd_answers.specs.declared.request.Request.TheVariants.{Check, PassingCheck, CheckAndClear, Query, Restore, Repair, Search, RepairNamed, DrySearch, RepairCache, Generate, Rehearse, Writeback, Shrink}
+use Rattle.pd_answers.specs.Requests.{Request}
+use Rattle.pd_answers.specs.Promises.{terms_of}
 use Rattle.pd_answers.specs.NamedRepairs as named
 use Rattle.pd_answers.specs.Rehearsals as rehearsals
 use Rattle.pd_answers.specs.Repairs as repairs
 use Rattle.pd_answers.specs.Searches as searches
 use Rattle.pd_answers.specs.Shrinks as shrinks
-use Rattle.pd_answers.specs.Terms.{Terms}
 use Rattle.pd_answers.specs.Writebacks as writebacks
-use Rattle.pd_answers.specs.Promises.{terms_of}
-use Rattle.pd_shapes.specs.PoolText.{IsPoolTextVerdict, is_pool_text_early}
-use Rattle.pd_spells.specs.Early.{is_cache_early, is_era_early}
-use Rattle.pd_spells.specs.CacheNeed.{IsCacheVerdict}
-use Rattle.pd_spells.specs.EraNeed.{IsEraVerdict}
-use Rattle.pd_laid.specs.LaidThin.{laid_shape}
-use Rattle.pd_laid.specs.LaidCache.{laid_cache}
-use Rattle.pd_laid.specs.LaidEra.{laid_era}
 use Rattle.pd_tools.specs.Restore.{TextsHaveVerdicts}
 use Rattle.pd_tools.specs.Task.{AreAlone, IsAtRest}
 use Rattle.pd_tools.proofs.CacheRepairs.{cache_repair_rests}
-use Rattle.pd_tools.proofs.Checks.{told}
+use Rattle.pd_tools.proofs.Checks.{told, query_at_rest}
 use Rattle.pd_tools.proofs.FewReads.{unread}
 use Rattle.pd_tools.proofs.Clears.{clearing_at_rest}
 use Rattle.pd_tools.proofs.NamedRepairs.{dry_search_rests, named_rests}
-use Rattle.pd_tools.proofs.Queries.{query_at_rest}
 use Rattle.pd_tools.proofs.Rehearses.{rehearse_rests}
 use Rattle.pd_tools.proofs.Repairs.{repair_rests, repair_statuses}
 use Rattle.pd_tools.proofs.Restores.{restore_at_rest}
@@ -61,60 +59,60 @@ pub at_rest : (request : Option Request) (before : Objects) (notes : SinkState) 
     → (finding : (terms_of request).Finding) × ((terms_of request).finds before (record before { notes = notes }) finding)
     × ((terms_of request).leaves finding before (record before { notes = notes }) 6)
 at_rest None before notes fresh verdicts = (tt, tt, tt)
-at_rest (Some (check kind until path)) before notes fresh verdicts = (
+at_rest (Some (Check kind until path)) before notes fresh verdicts = (
   option_map_or (λ image. report_of (faults kind until image)) before.input.held (report_of []),
   told before.input.held (λ image. report_of (faults kind until image)) (report_of []),
   tt,
 )
-at_rest (Some (passing_check kind path)) before notes fresh verdicts = (
+at_rest (Some (PassingCheck kind path)) before notes fresh verdicts = (
   option_map_or (λ image. report_of (faults kind Counts image)) before.input.held (report_of []),
   told before.input.held (λ image. report_of (faults kind Counts image)) (report_of []),
   tt,
 )
-at_rest (Some (check_and_clear flagged passing path)) before notes fresh verdicts = clearing_at_rest flagged passing path before notes fresh.input.2
-at_rest (Some (restore Thin version file path)) before notes fresh verdicts =
+at_rest (Some (CheckAndClear flagged passing path)) before notes fresh verdicts = clearing_at_rest flagged passing path before notes fresh.input.2
+at_rest (Some (Restore Thin version file path)) before notes fresh verdicts =
     restore_at_rest IsPoolTextVerdict is_pool_text_early laid_shape file path before (record before { notes = notes }) before.source before.output fresh.output.2 (verdicts Thin version) fresh.output.0
-at_rest (Some (restore Cache version file path)) before notes fresh verdicts =
+at_rest (Some (Restore Cache version file path)) before notes fresh verdicts =
     restore_at_rest (IsCacheVerdict version) (is_cache_early version) (λ m room. laid_cache m version room) file path before (record before { notes = notes }) before.source before.output fresh.output.2 (verdicts Cache version) fresh.output.0
-at_rest (Some (restore Era version file path)) before notes fresh verdicts =
+at_rest (Some (Restore Era version file path)) before notes fresh verdicts =
     restore_at_rest IsEraVerdict is_era_early laid_era file path before (record before { notes = notes }) before.source before.output fresh.output.2 (verdicts Era version) fresh.output.0
-at_rest (Some (repair shared from to)) before notes fresh verdicts =
+at_rest (Some (Repair shared from to)) before notes fresh verdicts =
     task_at_rest (repairs.repair shared from to) before notes (repair_rests (faults Thin Super) repair_statuses shared (repairs.saved_of shared) from to before (record before { notes = notes }) fresh (none_written before notes fresh))
-at_rest (Some (query asked file path)) before notes fresh verdicts = query_at_rest asked before.input.held
-at_rest (Some (generate number file)) before notes fresh verdicts = (tt, tt, tt)
-at_rest (Some (rehearse number path)) before notes fresh verdicts =
+at_rest (Some (Query asked file path)) before notes fresh verdicts = query_at_rest asked before.input.held
+at_rest (Some (Generate number file)) before notes fresh verdicts = (tt, tt, tt)
+at_rest (Some (Rehearse number path)) before notes fresh verdicts =
     task_at_rest (rehearsals.rehearse number path) before notes (rehearse_rests number path before (record before { notes = notes }) (verdicts Thin 1) fresh.output.2 (none_written before notes fresh))
-at_rest (Some (writeback metadata fast origin)) before notes fresh verdicts =
+at_rest (Some (Writeback metadata fast origin)) before notes fresh verdicts =
     task_at_rest (writebacks.writeback metadata fast origin) before notes (writeback_rests metadata fast origin before (record before { notes = notes }) fresh (none_written before notes fresh))
-at_rest (Some (shrink shared input output pool blocks)) before notes fresh verdicts =
+at_rest (Some (Shrink shared input output pool blocks)) before notes fresh verdicts =
     task_at_rest (shrinks.shrink shared input output pool blocks) before notes (shrink_rests shared input output pool blocks before (record before { notes = notes }) fresh (none_written before notes fresh))
-at_rest (Some (repair_cache version from to)) before notes fresh verdicts =
-    task_at_rest (caches.repair_cache version from to) before notes (cache_repair_rests version from to before (record before { notes = notes }) fresh (none_written before notes fresh) refl)
-at_rest (Some (search shared from to transaction block_size blocks)) before notes fresh verdicts =
-    task_at_rest (searches.search shared from to transaction block_size blocks) before notes
-    (search_rests shared (record { transaction = transaction; block_size = block_size; blocks = blocks }) from to before (record before { notes = notes }) fresh (none_written before notes fresh))
-at_rest (Some (repair_named shared from to given roots)) before notes fresh verdicts =
+at_rest (Some (RepairCache version from to)) before notes fresh verdicts =
+    task_at_rest (repairs.repair_cache version from to) before notes (cache_repair_rests version from to before (record before { notes = notes }) fresh (none_written before notes fresh) refl)
+at_rest (Some (Search shared from to given)) before notes fresh verdicts =
+    task_at_rest (searches.search shared from to given.transaction given.block_size given.blocks) before notes
+    (search_rests shared given from to before (record before { notes = notes }) fresh (none_written before notes fresh))
+at_rest (Some (RepairNamed shared from to given roots)) before notes fresh verdicts =
     task_at_rest (named.repair_named shared from to given roots) before notes (named_rests shared given roots from to before (record before { notes = notes }) fresh (none_written before notes fresh))
-at_rest (Some (dry_search path given roots)) before notes fresh verdicts =
+at_rest (Some (DrySearch path given roots)) before notes fresh verdicts =
     task_at_rest (named.dry_search path given roots) before notes (dry_search_rests given roots path before (record before { notes = notes }))
 
 -- and nothing was read
 pub reads_at_rest : (request : Option Request) (before : Objects) (notes : SinkState)
     → (terms_of request).reads before (record before { notes = notes })
 reads_at_rest None before notes = tt
-reads_at_rest (Some (check kind until path)) before notes = unread kind before.input.held before.input.reads
-reads_at_rest (Some (passing_check kind path)) before notes = unread kind before.input.held before.input.reads
-reads_at_rest (Some (check_and_clear flagged passing path)) before notes = unread (kind_of flagged) before.input.held before.input.reads
-reads_at_rest (Some (restore Thin version file path)) before notes = tt
-reads_at_rest (Some (restore Cache version file path)) before notes = tt
-reads_at_rest (Some (restore Era version file path)) before notes = tt
-reads_at_rest (Some (repair shared from to)) before notes = tt
-reads_at_rest (Some (query asked file path)) before notes = tt
-reads_at_rest (Some (generate number file)) before notes = tt
-reads_at_rest (Some (rehearse number path)) before notes = tt
-reads_at_rest (Some (writeback metadata fast origin)) before notes = tt
-reads_at_rest (Some (shrink shared input output pool blocks)) before notes = tt
-reads_at_rest (Some (search shared from to transaction block_size blocks)) before notes = tt
-reads_at_rest (Some (repair_named shared from to given named)) before notes = tt
-reads_at_rest (Some (dry_search path given named)) before notes = tt
-reads_at_rest (Some (repair_cache version from to)) before notes = tt
+reads_at_rest (Some (Check kind until path)) before notes = unread kind before.input.held before.input.reads
+reads_at_rest (Some (PassingCheck kind path)) before notes = unread kind before.input.held before.input.reads
+reads_at_rest (Some (CheckAndClear flagged passing path)) before notes = unread (kind_of flagged) before.input.held before.input.reads
+reads_at_rest (Some (Restore Thin version file path)) before notes = tt
+reads_at_rest (Some (Restore Cache version file path)) before notes = tt
+reads_at_rest (Some (Restore Era version file path)) before notes = tt
+reads_at_rest (Some (Repair shared from to)) before notes = tt
+reads_at_rest (Some (Query asked file path)) before notes = tt
+reads_at_rest (Some (Generate number file)) before notes = tt
+reads_at_rest (Some (Rehearse number path)) before notes = tt
+reads_at_rest (Some (Writeback metadata fast origin)) before notes = tt
+reads_at_rest (Some (Shrink shared input output pool blocks)) before notes = tt
+reads_at_rest (Some (Search shared from to given)) before notes = tt
+reads_at_rest (Some (RepairNamed shared from to given named)) before notes = tt
+reads_at_rest (Some (DrySearch path given named)) before notes = tt
+reads_at_rest (Some (RepairCache version from to)) before notes = tt

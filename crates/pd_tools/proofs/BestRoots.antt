@@ -3,10 +3,9 @@ use Rattle.std.proofs.Common.{◌≡◌, inl, inr, ℕ, zero, suc, ◌<◌, true
 use Rattle.std.proofs.lemmas.Bool.{and_parts, cases_Bool, cases_lt}
 use Rattle.std.proofs.lemmas.Option.{IfSome_then}
 use Rattle.std.proofs.lemmas.Bool.Decides.{nat_tests}
-use Rattle.pd_kinds.specs.Graph.{Graph}
-use Rattle.pd_kinds.specs.Edge.{is_outside}
+use Rattle.pd_kinds.specs.Graph.{Graph, is_outside}
 use Rattle.pd_laid.specs.FoundRoots.{FoundRoots, IsFound, are_fitting, is_better, is_sound_tree, lost_graph, roots_at}
-use Rattle.pd_scan.proofs.OrderLemmas.{not_better_back, not_better_over, not_better_self}
+use Rattle.pd_scan.proofs.PairLemmas.{not_better_back, not_better_over, not_better_self}
 
 -- candidates, one for each number, where there is one; and what is best of those below n
 abbrev Candidates : Type 0

@@ -7,38 +7,33 @@ use Rattle.pd_kinds.specs.declared.kind.Stage.TheVariants.{Super}
 use Rattle.pd_kinds.specs.declared.rule.Rule.{Rule}
 use Rattle.pd_kinds.specs.declared.rules.Rules.{Rules}
 use Rattle.pd_kinds.specs.Crash.{IsUntouched}
-use Rattle.pd_kinds.specs.Faults.{faults_at}
-use Rattle.pd_kinds.specs.Limits.{room_of}
+use Rattle.pd_kinds.specs.Rule.{faults_at, Reported, report_of, has_rule}
+use Rattle.pd_kinds.specs.Image.{room_of}
 use Rattle.pd_kinds.specs.Objects.{SinkState, Rose}
-use Rattle.pd_kinds.specs.Report.{Reported, report_of}
-use Rattle.pd_kinds.specs.RuleSet.{has_rule}
 use Rattle.pd_kinds.specs.Stages.{faults}
-use Rattle.pd_spells.specs.Lines.{no_room_line, reported_lines}
+use Rattle.pd_grammar.specs.Lines.{no_room_line, reported_lines}
+use Rattle.pd_answers.specs.Terms.{Answer, AreFresh, Objects, Terms, is_possible}
+use Rattle.pd_answers.specs.Repairs.{LeavesKept, SavedIn, keeps_line, kept_answer, kept_line, making_in, repair_cache, saved_in, FindsSaved, Salvaged}
+use Rattle.pd_answers.specs.Outputs.{Lays}
 use Rattle.pd_image.specs.Device.{KeepsPlace}
-use Rattle.pd_answers.specs.Answer.{Answer, AreFresh, Objects}
-use Rattle.pd_answers.specs.CacheRepairs.{LeavesKept, SavedIn, keeps_line, kept_answer, kept_line, making_in, repair_cache, saved_in}
-use Rattle.pd_answers.specs.Makings.{Lays}
-use Rattle.pd_answers.specs.Repairs.{FindsSaved, Salvaged}
-use Rattle.pd_answers.specs.Terms.{Terms, is_possible}
-use Rattle.pd_repair.specs.declared.fault.RepairFault.{RepairFault}
-use Rattle.pd_repair.specs.declared.fault.RepairFault.TheVariants as fault
+use Rattle.pd_restoring.specs.Made.{AnswersEnding, Content, IsEarly, IsDone as IsMadeDone}
+use Rattle.pd_restore_kinds.specs.Caches.{cache_content}
+use Rattle.pd_repair.specs.declared.repair.RepairFault.{RepairFault}
 use Rattle.pd_repair.specs.Faults.{output_ending}
 use Rattle.pd_repair.specs.Repaired.{BlamesOne, NamesRules}
-use Rattle.pd_repair_cache.specs.declared.kept.KeptCache.{KeptCache}
-use Rattle.pd_repair_cache.specs.Repaired.{IsCacheRepaired, IsKept}
-use Rattle.pd_restore_cache.specs.Made.{cache_content}
-use Rattle.pd_restoring.specs.Made.{AnswersEnding, Content, IsEarly, IsDone as IsMadeDone}
-use Rattle.pd_tools.specs.declared.stop.Stop.{Stop}
-use Rattle.pd_tools.specs.declared.stop.Stop.TheVariants.{Device, Memory}
+use Rattle.pd_repair.specs.declared.cache_repair.KeptCache.{KeptCache}
+use Rattle.pd_repair.specs.CacheRepaired.{IsCacheRepaired, IsKept}
+use Rattle.pd_repair.specs.declared.repair.RepairFault.TheVariants as fault
 use Rattle.pd_words.specs.Words.{IsVersion}
-use Rattle.pd_tools.specs.CacheRepair.{is_known}
+use Rattle.pd_tools.specs.declared.ending.Stop.{Stop}
+use Rattle.pd_tools.specs.declared.ending.Stop.TheVariants.{Device, Memory}
+use Rattle.pd_tools.specs.Given.{is_known}
 use Rattle.pd_tools.specs.Ending.{repair_ended}
 use Rattle.pd_tools.specs.Opened.{AreOpened, Devices, devices_of}
 use Rattle.pd_tools.specs.Stop.{stop_status}
-use Rattle.pd_tools.specs.Task.{AreAlone, IsAtRest, IsDone, IsEnded, IsHalted, Works}
-use Rattle.pd_tools.specs.Work.{HasCause}
+use Rattle.pd_tools.specs.Task.{AreAlone, IsAtRest, IsDone, IsEnded, IsHalted, Works, HasCause}
 use Rattle.pd_tools.proofs.Laying.{first_alone, first_done, first_failed, first_lacking, first_lost}
-use Rattle.pd_tools.proofs.Queries.{one_told}
+use Rattle.pd_tools.proofs.Checks.{one_told}
 use Rattle.pd_tools.proofs.Repairs.{answer_faulty, answer_made, answer_small, done_right, faulty_right, found_of, found_right, memory_right, memory_told, named_total, of_ending, output_right, report-told, report_in, room_right, saved_at_rest}
 use Rattle.pd_tools.proofs.Restores.{Image}
 

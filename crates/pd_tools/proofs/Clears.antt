@@ -9,31 +9,27 @@ use Rattle.pd_kinds.specs.declared.kind.Flagged.{Flagged}
 use Rattle.pd_kinds.specs.declared.kind.Passing.{Passing}
 use Rattle.pd_kinds.specs.declared.kind.Stage.TheVariants.{Counts}
 use Rattle.pd_kinds.specs.Graph.{block_at}
-use Rattle.pd_kinds.specs.Moments.{History}
-use Rattle.pd_kinds.specs.Objects.{DeviceState, SinkState, Appends, AppendsFront, Rose}
+use Rattle.pd_kinds.specs.Objects.{History, DeviceState, SinkState, Appends, AppendsFront, Rose}
 use Rattle.pd_kinds.specs.Flagged.{kind_of}
-use Rattle.pd_kinds.specs.Report.{Reported, passes, report_of}
+use Rattle.pd_kinds.specs.Rule.{Reported, passes, report_of}
 use Rattle.pd_kinds.specs.Stages.{faults}
 use Rattle.pd_kinds.specs.Crash.{LeavesOnly, HoldsSynced, IsSynced, IsUntouched, StillTells}
-use Rattle.pd_kinds.proofs.AppendLemmas.{front_from_whole}
+use Rattle.pd_kinds.proofs.ListLemmas.{front_from_whole, all_from}
 use Rattle.pd_kinds.proofs.CrashLemmas.{and_then, stays, still_tells, weaken}
-use Rattle.pd_laws.proofs.AllLemmas.{all_from}
-use Rattle.pd_image.specs.Device.{IsWritable, MayChange}
-use Rattle.pd_image.proofs.CrashLemmas.{at_some}
-use Rattle.pd_draft.specs.Replaced.{IsOldOrNewFirst, IsReplaced}
-use Rattle.pd_draft.proofs.DraftLemmas.{replaced_here}
-use Rattle.pd_spells.specs.Lines.{reported_lines}
-use Rattle.pd_answers.specs.Answer.{Objects, IsUsed, reading, writing}
-use Rattle.pd_answers.specs.Terms.{is_one_of, is_possible}
+use Rattle.pd_grammar.specs.Lines.{reported_lines}
+use Rattle.pd_answers.specs.Terms.{Objects, IsUsed, reading, writing, is_one_of, is_possible, ReadsFew}
 use Rattle.pd_answers.specs.Flag.{IsOldOrCleared, IsOldOrClearedSuper, LeavesCleared, cleared, needs_check}
 use Rattle.pd_answers.specs.Promises.{check_and_clear}
-use Rattle.pd_tools.specs.declared.stop.Stop.{Stop}
-use Rattle.pd_tools.specs.declared.stop.Stop.TheVariants.{Device, Stream}
-use Rattle.pd_tools.specs.Read.{IsUnread}
+use Rattle.pd_image.specs.Device.{IsWritable, MayChange}
+use Rattle.pd_image.proofs.CrashLemmas.{at_some}
+use Rattle.pd_draft.specs.Closed.{IsOldOrNewFirst, IsReplaced}
+use Rattle.pd_draft.proofs.DraftLemmas.{replaced_here}
 use Rattle.pd_check.specs.Check as check_reads
-use Rattle.pd_answers.specs.Reads.{ReadsFew}
+use Rattle.pd_tools.specs.declared.ending.Stop.{Stop}
+use Rattle.pd_tools.specs.declared.ending.Stop.TheVariants.{Device, Stream}
+use Rattle.pd_tools.specs.Query.{IsUnread}
 use Rattle.pd_tools.proofs.FewReads.{few}
-use Rattle.pd_tools.specs.Work.{IsFinished, IsStopped}
+use Rattle.pd_tools.specs.Task.{IsFinished, IsStopped}
 use Rattle.pd_tools.proofs.Checks.{not_yet, told}
 use Rattle.pd_tools.proofs.Works.{Stands, by_clean, finished_by, stopped_by, stopped_unread}
 

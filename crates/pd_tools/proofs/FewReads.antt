@@ -10,13 +10,12 @@ use Rattle.pd_kinds.specs.declared.kind.Stage.TheVariants.{Super, Walk, Order, W
 use Rattle.pd_kinds.specs.Graph.{block_at, nodes}
 use Rattle.pd_kinds.specs.Stages.{faults}
 use Rattle.pd_kinds.specs.Flagged.{kind_of}
-use Rattle.pd_kinds.specs.Report.{Reported, passes, report_of}
-use Rattle.pd_laws.proofs.LeakLemmas.{passing_super}
-use Rattle.pd_check.specs.ByKind.{graph_of_super}
-use Rattle.pd_check.specs.Check as check
-use Rattle.pd_check.specs.Check.{reads_of}
+use Rattle.pd_kinds.specs.Rule.{Reported, passes, report_of}
+use Rattle.pd_kinds.proofs.LeakLemmas.{passing_super}
+use Rattle.pd_answers.specs.Terms.{ReadsFew}
+use Rattle.pd_check.specs.Check.{graph_of_super, reads_of}
 use Rattle.pd_check.proofs.CheckLemmas.{same_graph}
-use Rattle.pd_answers.specs.Reads.{ReadsFew}
+use Rattle.pd_check.specs.Check as check
 
 -- a check reads each pair at most six times, up to any stage
 at_most_six : (until : Stage) (n : ℕ) → reads_of until * n ≤ 6 * n

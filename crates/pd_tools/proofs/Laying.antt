@@ -1,21 +1,24 @@
 -- What is left of an output over which something was laid, or was to be, over plain variables.
-use Rattle.std.proofs.Common.{◌≡◌, ◌≢◌, ◌⊎◌, inl, inr, ℕ, ◌≤◌, true, false, not, nat_eq, Option, IfSome, refl, ◌∙◌, subst, arith}
+use Rattle.std.proofs.Common.{◌≡◌, ◌≢◌, ◌⊎◌, inl, inr, ℕ, ◌≤◌, true, false, not, nat_eq, Option, IfSome, refl, ◌∙◌, subst, arith, length, Some, None, sym, ap}
 use Rattle.std.specs.Prelude.{IsSome}
 use Rattle.std.proofs.lemmas.Bool.{cases_lt}
 use Rattle.std.proofs.lemmas.Option.{IfSome_then}
+use Rattle.std.specs.Option.{option_map_or}
 use Rattle.pd_kinds.specs.Crash.{HasNoSuper, HoldsOldOrNone, HoldsSynced, IsSynced, IsUntouched}
-use Rattle.pd_kinds.specs.Limits.{room_of}
+use Rattle.pd_kinds.specs.Image.{room_of}
 use Rattle.pd_kinds.specs.Objects.{DeviceState, Rose, SinkState}
 use Rattle.pd_kinds.proofs.CrashLemmas.{and_then, stays, weaken}
 use Rattle.pd_laid.specs.Laid.{IsLaid}
-use Rattle.pd_answers.specs.Answer.{Answer, AreFresh, Objects}
-use Rattle.pd_answers.specs.Makings.{Lays, Making}
-use Rattle.pd_answers.specs.Outputs.{LeavesMade, LeavesMadeFirst}
+use Rattle.pd_answers.specs.Terms.{Answer, AreFresh, Objects}
+use Rattle.pd_answers.specs.Outputs.{Lays, Making, LeavesMade, LeavesMadeFirst, IsRoom}
+use Rattle.pd_answers.specs.Writebacks.{HasBlocks}
 use Rattle.pd_restoring.specs.Made.{Content, Ending, IsDone, IsMade, IsOfOthers, MakesContent}
 use Rattle.pd_tools.proofs.Answered.{not_risen}
-use Rattle.pd_tools.proofs.Restores.{Image, here, left_lost, same_held, still_synced, untouched_output}
+use Rattle.pd_tools.proofs.Restores.{Image, here, left_lost, same_held, still_synced, untouched_output, room-held}
 use Rattle.pd_tools.proofs.Tasks.{and_same}
 use Rattle.pd_tools.proofs.Works.{not_done, still_done}
+use Rattle.pd_tools.specs.Task.{IsMeasured}
+use Rattle.pd_tools.proofs.Checks.{one_told}
 
 -- what is laid of a content
 abbrev pub making_of : Content → Making
@@ -140,3 +143,55 @@ module _ (before after : Objects) (writable : DeviceState) (fresh : AreFresh bef
       laid at is =
           laid_leaves before.output writable after.output fresh.output.2 same content ending made answer given at (λ _. is_done)
           (λ either. elim is [ inl e ↦ elim either [ inl t ↦ omega arith | inr t ↦ omega arith ] | inr e ↦ elim either [ inl t ↦ omega arith | inr t ↦ omega arith ] ])
+
+-- How many blocks devices have, by what they tell.
+
+-- of what is told, and else of the device
+blocks_by : Option Image → ℕ → ℕ
+blocks_by held blocks = option_map_or (λ (image : Image). length image) held blocks
+
+blocks_told : (held : Option Image) (blocks : ℕ) → IfSome held (λ image. blocks_by held blocks ≡ length image)
+unfolding blocks_by
+blocks_told None blocks = tt
+blocks_told (Some image) blocks = refl
+
+blocks_same : (held : Option Image) (blocks : ℕ) → IfSome held (λ image. length image ≡ blocks) → blocks_by held blocks ≡ blocks
+unfolding blocks_by
+blocks_same None blocks is = refl
+blocks_same (Some image) blocks is = is
+
+-- those of a device that was left alone
+pub blocks_of : (old new : DeviceState) → ℕ
+blocks_of old new = blocks_by old.held new.blocks
+
+measured_first : (old new : DeviceState) → new.held ≡ old.held → IfSome new.held (λ image. length image ≡ new.blocks) → IfSome old.held (λ image. length image ≡ new.blocks)
+measured_first old new same measured = subst (λ (h : Option Image). IfSome h (λ image. length image ≡ new.blocks)) same measured
+
+pub blocks_at_rest : (old new : DeviceState) → new.held ≡ old.held → IsMeasured new → HasBlocks old new (blocks_of old new)
+unfolding blocks_of
+blocks_at_rest old new same measured = record {
+  told = blocks_told old.held new.blocks;
+  attached = λ either. blocks_same old.held new.blocks (measured_first old new same (measured (λ none. elim either [ inl e ↦ absurd (omega arith) | inr e ↦ absurd (omega arith) ])));
+}
+
+pub room_at_rest : (old new : DeviceState) → new.held ≡ old.held → IsMeasured new → IsRoom old new (room_of (blocks_of old new))
+unfolding blocks_of
+room_at_rest old new same measured = record {
+  told = one_told old.held (λ image is. ap room_of is) (blocks_told old.held new.blocks);
+  attached = λ two. ap room_of (blocks_same old.held new.blocks (measured_first old new same (measured (λ none. absurd (omega arith)))));
+}
+
+-- those of a device that was attached, and may have been written since
+pub has_blocks : (old opened new : DeviceState) (blocks : ℕ) → blocks ≡ opened.blocks → opened.held ≡ old.held → IfSome opened.held (λ image. length image ≡ opened.blocks)
+    → new.blocks ≡ opened.blocks → HasBlocks old new blocks
+has_blocks old opened new blocks same held measured number = record {
+  told = rw same (one_told old.held (λ image is. sym is) (measured_first old opened held measured));
+  attached = λ _. same ∙ sym number;
+}
+
+pub has_room : (old opened new : DeviceState) (room : ℕ) → room ≡ room_of opened.blocks → opened.held ≡ old.held → IfSome opened.held (λ image. length image ≡ opened.blocks)
+    → new.blocks ≡ opened.blocks → IsRoom old new room
+has_room old opened new room same held measured number = record {
+  told = rw same (room-held old.held opened.held opened.blocks held measured);
+  attached = λ _. same ∙ ap room_of (sym number);
+}

@@ -1,39 +1,39 @@
 -- What the work of a repair from named roots comes to, and that of a dry run without a superblock, over plain variables.
 use Rattle.std.proofs.Common.{◌≡◌, ◌≢◌, inl, ℕ, Bool, true, false, IsTrue, List, [], ◌∷◌, length, Option, Some, None, IfSome, Result, Ok, Err, min, refl, sym, ap, ap₂, ◌∙◌, subst}
-use Rattle.std.specs.Option.{option_map, option_map_or}
+use Rattle.std.specs.Option.{option_map_or}
 use Rattle.std.specs.Prelude.{IfErr}
-use Rattle.pd_kinds.specs.declared.fault.Fault.{Fault}
+use Rattle.pd_kinds.specs.declared.rule.Fault.{Fault}
 use Rattle.pd_kinds.specs.declared.limits.TheConstants.{MAX_META_BLOCKS}
 use Rattle.pd_kinds.specs.declared.rules.Rules.{Rules}
 use Rattle.pd_kinds.specs.Layout.{graph_of}
 use Rattle.pd_kinds.specs.Objects.{DeviceState, SinkState}
-use Rattle.pd_kinds.specs.ThinSuper.{ThinFields}
+use Rattle.pd_kinds.specs.ThinFormat.{ThinFields}
 use Rattle.pd_laid.specs.FoundRoots.{lost_graph}
-use Rattle.pd_image.specs.Device.{KeepsPlace, OnlyReads}
-use Rattle.pd_answers.specs.Answer.{AreFresh, Objects, reading}
+use Rattle.pd_answers.specs.Terms.{AreFresh, Objects, reading, Terms, is_one_of, is_possible}
 use Rattle.pd_answers.specs.KeptLines.{IsTold, told_from, told_text}
-use Rattle.pd_answers.specs.NamedRepairs.{dry_search, dry_search_statuses, repair_named, saved_from_named, text_without_super}
-use Rattle.pd_answers.specs.NamedRoots.{GivenSuper, NamedRoots, named_fields, pool_time, saved_time, timeless_fields}
+use Rattle.pd_answers.specs.NamedRepairs.{dry_search, dry_search_statuses, repair_named, saved_from_named, text_without_super, named_fields, pool_time, saved_time, timeless_fields}
+use Rattle.pd_answers.specs.declared.request.GivenSuper.{GivenSuper}
+use Rattle.pd_answers.specs.declared.request.NamedRoots.{NamedRoots}
 use Rattle.pd_answers.specs.Repairs.{Saved}
-use Rattle.pd_answers.specs.SearchLines.{no_roots_line}
-use Rattle.pd_answers.specs.Terms.{Terms, is_one_of, is_possible}
+use Rattle.pd_answers.specs.Searches.{no_roots_line}
+use Rattle.pd_image.specs.Device.{KeepsPlace, OnlyReads}
+use Rattle.pd_salvage.specs.declared.saved.SalvageFault.{SalvageFault}
+use Rattle.pd_salvage.specs.Saved.{CountsSalvage}
+use Rattle.pd_salvage.specs.declared.saved.SalvageFault.TheVariants as f
+use Rattle.pd_repair.specs.declared.repair.RepairFault.{RepairFault}
+use Rattle.pd_repair.specs.Repaired.{AnswersSuper, CountsRepair, HasSuper, IsRepairedFromAs, NamesRules}
+use Rattle.pd_repair.specs.declared.repair.RepairFault.TheVariants as fault
 use Rattle.pd_kept.specs.declared.states.Looked.{Looked}
 use Rattle.pd_kept.specs.Kept.{told_of}
 use Rattle.pd_kept.specs.States.{looked_text}
 use Rattle.pd_kept.proofs.WeighingLemmas.{text_is}
-use Rattle.pd_repair.specs.declared.fault.RepairFault.{RepairFault}
-use Rattle.pd_repair.specs.declared.fault.RepairFault.TheVariants as fault
-use Rattle.pd_repair.specs.Repaired.{AnswersSuper, CountsRepair, HasSuper, IsRepairedFromAs, NamesRules}
-use Rattle.pd_salvage.specs.declared.fault.SalvageFault.{SalvageFault}
-use Rattle.pd_salvage.specs.declared.fault.SalvageFault.TheVariants as f
-use Rattle.pd_salvage.specs.Faults.{CountsSalvage}
-use Rattle.pd_scan.specs.Roots.{lost_fields}
+use Rattle.pd_scan.specs.Pairs.{lost_fields}
 use Rattle.pd_tools.specs.Ending.{repair_ended}
 use Rattle.pd_tools.specs.Opened.{AreOpened, Devices, IsOpened, devices_of}
-use Rattle.pd_tools.specs.Saved.{saved_content, seen_by}
+use Rattle.pd_tools.specs.Restore.{saved_content, seen_by}
 use Rattle.pd_tools.specs.Stop.{salvage_stop}
 use Rattle.pd_tools.specs.Task.{AreAlone, IsAtRest, IsDone, IsEnded, IsHalted, IsMeasured, Works}
-use Rattle.pd_tools.proofs.Queries.{two_told}
+use Rattle.pd_tools.proofs.Checks.{two_told}
 use Rattle.pd_tools.proofs.Repairs.{repair_rests, repair_works}
 use Rattle.pd_tools.proofs.Restores.{Image}
 use Rattle.pd_tools.proofs.Tasks.{halted_at_rest, read_alone, read_by}
@@ -180,11 +180,6 @@ module _ (given : GivenSuper) (named : Option NamedRoots) (path : List ℕ) (bef
       by : (named : Option NamedRoots) → IfSome named (λ _. ◌≢◌ {A = Option Looked} None None) → IsTrue (is_one_of (dry_search_statuses named) 1)
       by None some = refl
       by (Some roots) some = absurd (some refl)
-
--- what is told of roots that are named, of one sort, is told of the other
-pub named_some : {A B : Type 0} (P : Type 0) (f : A → B) (o : Option A) → IfSome o (λ _. P) → IfSome (option_map f o) (λ _. P)
-named_some P f None some = tt
-named_some P f (Some x) some = some
 
 -- what is kept from named roots has no states before it
 pub kept_told : (image : Image) (given : GivenSuper) (named : NamedRoots) (s : ThinFields) (looked : Looked) → s ≡ named_fields image given named → IsTold s image (told_of looked.kept)

@@ -1,45 +1,42 @@
 -- What the work of a rehearsal comes to, over plain variables.
-use Rattle.std.proofs.Common.{◌≡◌, ◌≢◌, ◌⊎◌, inl, inr, ℕ, false, nat_eq, List, [], length, Option, None, Some, IfSome, IsTrue, Result, Ok, Err, refl, ◌∙◌, subst, arith}
+use Rattle.std.proofs.Common.{◌≡◌, ◌≢◌, ◌⊎◌, inl, inr, ℕ, false, nat_eq, List, [], length, Option, None, Some, IfSome, IsTrue, Result, Ok, Err, refl, ◌∙◌, subst, arith, lit≤, unwrap_or}
 use Rattle.std.specs.Prelude.{IsSome, IfErr, MatchResult, OnOk, count_by, sum_by}
 use Rattle.std.proofs.lemmas.Bool.{ne_eqb}
 use Rattle.std.proofs.lemmas.Option.{IfSome_then}
 use Rattle.pd_kinds.specs.Crash.{IsSynced, HoldsSynced, HasNoSuper, IsUntouched}
-use Rattle.pd_kinds.specs.Limits.{room_of}
+use Rattle.pd_kinds.specs.Image.{room_of}
 use Rattle.pd_kinds.specs.Meaning.{ThinDevice}
-use Rattle.pd_kinds.specs.Report.{Reported, report_of}
+use Rattle.pd_kinds.specs.Rule.{Reported, report_of}
 use Rattle.pd_kinds.proofs.CrashLemmas.{and_then, stays}
+use Rattle.pd_kinds.specs.Objects.{SinkState, Rose, Appends, AppendsFront}
 use Rattle.pd_grammar.specs.Spelling.{Verdict, accepted, refused, no_room}
-use Rattle.pd_spells.specs.Lines.{no_room_line, reported_lines}
-use Rattle.pd_spells.specs.ThinText.{text_of_pool}
+use Rattle.pd_grammar.specs.Lines.{no_room_line, reported_lines}
+use Rattle.pd_grammar.specs.ThinText.{text_of_pool}
 use Rattle.pd_laid.specs.LaidThin.{laid_shape}
-use Rattle.pd_laid.specs.Made.{Makes}
+use Rattle.pd_laid.specs.Laid.{Makes}
 use Rattle.pd_laid.specs.Shape.{ThinShape, pool_of}
-use Rattle.pd_shapes.specs.PoolText.{IsLawfulShape, IsPoolTextVerdict, is_pool_text_early}
-use Rattle.pd_shapes.specs.SharedNeed.{shape_need}
-use Rattle.pd_image.specs.Device.{KeepsPlace}
-use Rattle.pd_answers.specs.Answer.{AreFresh, Objects}
-use Rattle.pd_answers.specs.Generated.{generated_text, rehearsal_line}
+use Rattle.pd_laid.specs.PoolText.{IsLawfulShape, IsPoolTextVerdict, is_pool_text_early, shape_need}
+use Rattle.pd_answers.specs.Terms.{AreFresh, Objects, Terms, is_possible, IsUsed, reading}
+use Rattle.pd_answers.specs.Rehearsals.{generated_text, rehearsal_line, AreNumbers, LeavesRehearsed, Rehearsed, rehearse}
 use Rattle.pd_answers.specs.Outputs.{LeavesMade}
-use Rattle.pd_answers.specs.Rehearsals.{AreNumbers, LeavesRehearsed, Rehearsed, rehearse}
-use Rattle.pd_answers.specs.Terms.{Terms, is_possible}
-use Rattle.pd_rehearse.specs.declared.fault.RehearseFault.{RehearseFault}
-use Rattle.pd_rehearse.specs.declared.fault.RehearseFault.TheVariants as f
-use Rattle.pd_rehearse.specs.declared.run.Rehearsal.{Rehearsal}
-use Rattle.pd_rehearse.specs.Failing.{CountsRehearsal, IsReported, IsTurnedDown}
-use Rattle.pd_rehearse.specs.Rehearsed.{Rehearses, found_of}
-use Rattle.pd_tools.specs.declared.stop.Stop.{Stop}
-use Rattle.pd_tools.specs.declared.stop.Stop.TheVariants.{Device, Memory}
+use Rattle.pd_answers.specs.Promises.{generate}
+use Rattle.pd_image.specs.Device.{KeepsPlace}
+use Rattle.pd_gen.specs.declared.rehearsal.RehearseFault.{RehearseFault}
+use Rattle.pd_gen.specs.declared.rehearsal.Rehearsal.{Rehearsal}
+use Rattle.pd_gen.specs.Rehearsed.{CountsRehearsal, IsReported, IsTurnedDown, Rehearses, found_of}
+use Rattle.pd_gen.specs.declared.rehearsal.RehearseFault.TheVariants as f
+use Rattle.pd_tools.specs.declared.ending.Stop.{Stop}
+use Rattle.pd_tools.specs.declared.ending.Stop.TheVariants.{Device, Memory, Stream}
 use Rattle.pd_tools.specs.Ending.{rehearsal_ended}
 use Rattle.pd_tools.specs.Opened.{AreOpened, Devices, devices_of}
 use Rattle.pd_tools.specs.Restore.{HaveVerdicts}
 use Rattle.pd_tools.specs.Stop.{stop_status}
-use Rattle.pd_tools.specs.Task.{AreAlone, IsAtRest, IsDone, IsEnded, IsHalted, Works}
-use Rattle.pd_tools.specs.Work.{HasCause}
+use Rattle.pd_tools.specs.Task.{AreAlone, IsAtRest, IsDone, IsEnded, IsHalted, Works, HasCause, IsFinished, IsStopped}
 use Rattle.pd_tools.proofs.Answered.{stop_status-low}
 use Rattle.pd_tools.proofs.Restores.{Image, answer_accepted, answer_no_room, here, left_lost, still_synced, untouched_output}
-use Rattle.pd_tools.proofs.Rooms.{blocks_of, has_room, room_at_rest}
+use Rattle.pd_tools.proofs.Laying.{blocks_of, has_room, room_at_rest}
 use Rattle.pd_tools.proofs.Tasks.{and_same}
-use Rattle.pd_tools.proofs.Works.{not_done, still_done}
+use Rattle.pd_tools.proofs.Works.{not_done, still_done, Stands, finished_by, stopped_by}
 
 -- the numbers of a verdict
 abbrev used_in : Verdict ThinShape → ℕ → ℕ
@@ -248,3 +245,27 @@ module _ (number : ℕ) (path : List ℕ) (before after : Objects) (opened : Dev
   rehearse_works (Err f.Device) is reported counts = halted Device refl (inr (inl (rw was.output.faults at counts.0)))
   rehearse_works (Err (f.NoRoom need blocks)) is reported counts = no_room_here need blocks is
   rehearse_works (Err (f.Faulty report)) is reported counts = faulty report is reported
+
+-- What the work of the generator comes to, over plain variables.
+
+module _ (number : ℕ) (file : Option (List ℕ)) (others : Objects) (notes out out' : SinkState) (used : IsUsed (reading (unwrap_or file [])) out'.access out'.path) where
+  stands : Stands (generate number file) (record others { out = out }) (record others { out = out'; notes = notes })
+  stands = record {
+    followed = record { source = tt; out = used; input = tt; output = tt; third = tt };
+    order = record { input = tt; output = tt; third = tt; out = λ _. record { source = tt; input = tt; output = tt; third = tt } };
+    kept = record { source = refl; out = tt; input = refl; output = refl; third = refl };
+    reads = tt;
+  }
+
+  -- the text was put
+  pub generated : out'.access ≡ 1 → Appends (generated_text number) out.written out'.written
+      → IsFinished (generate number file) (record others { out = out }) (record others { out = out'; notes = notes }) 0 []
+  generated access whole =
+      finished_by (generate number file) _ _ stands tt tt 0 _ [] (lit≤ tt) refl (λ e. absurd cc) (λ no. absurd no) refl whole
+      (record { source = tt; input = tt; output = tt; third = tt }) (λ _. access) (λ _. tt) tt
+
+  -- or a front of it, since `out` failed
+  pub generated_front : AppendsFront (generated_text number) out.written out'.written → Rose out.faults out'.faults
+      → IsStopped (generate number file) (record others { out = out }) (record others { out = out'; notes = notes }) Stream
+  generated_front front rose =
+      stopped_by (generate number file) _ _ stands tt tt Stream refl (λ e. absurd cc) (λ no. absurd no) (inr rose) front tt tt

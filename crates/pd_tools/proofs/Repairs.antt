@@ -5,40 +5,35 @@ use Rattle.std.specs.Option.{option_map_or}
 use Rattle.std.proofs.lemmas.Bool.{lt-ltb, le-ltb}
 use Rattle.std.proofs.lemmas.Option.{IfSome_then}
 use Rattle.std.proofs.Math.Dec.{eqb-suc-zero}
-use Rattle.pd_kinds.specs.declared.fault.Fault.{Fault}
+use Rattle.pd_kinds.specs.declared.rule.Fault.{Fault}
 use Rattle.pd_kinds.specs.declared.rule.Rule.{Rule}
 use Rattle.pd_kinds.specs.declared.rules.Rules.{Rules}
 use Rattle.pd_kinds.specs.Objects.{DeviceState, Rose}
 use Rattle.pd_kinds.specs.Crash.{HoldsOldOrNone, IsSynced, IsUntouched}
-use Rattle.pd_kinds.specs.Faults.{faults_at}
-use Rattle.pd_kinds.specs.Limits.{room_of}
-use Rattle.pd_kinds.specs.Report.{Reported, report_of}
-use Rattle.pd_kinds.specs.RuleSet.{has_rule}
-use Rattle.pd_laws.proofs.CleanLemmas.{no_rule_broken}
-use Rattle.pd_spells.specs.Lines.{no_room_line, reported_lines}
-use Rattle.pd_image.specs.Device.{KeepsPlace}
-use Rattle.pd_answers.specs.Answer.{Answer, AreFresh, Objects}
-use Rattle.pd_answers.specs.Makings.{Lays, Making}
+use Rattle.pd_kinds.specs.Rule.{faults_at, Reported, report_of, has_rule}
+use Rattle.pd_kinds.specs.Image.{room_of}
+use Rattle.pd_kinds.proofs.CleanLemmas.{no_rule_broken}
+use Rattle.pd_grammar.specs.Lines.{no_room_line, reported_lines}
+use Rattle.pd_answers.specs.Terms.{Answer, AreFresh, Objects, Terms, is_one_of, is_possible}
+use Rattle.pd_answers.specs.Outputs.{Lays, Making}
 use Rattle.pd_answers.specs.Repairs.{FindsSaved, LeavesRepaired, Salvaged, Saved, repair_answer, repair_by, saved_answer, saved_making}
-use Rattle.pd_answers.specs.Terms.{Terms, is_one_of, is_possible}
-use Rattle.pd_repair.specs.declared.fault.RepairFault.{RepairFault}
-use Rattle.pd_repair.specs.declared.fault.RepairFault.TheVariants as fault
+use Rattle.pd_image.specs.Device.{KeepsPlace}
+use Rattle.pd_restoring.specs.Made.{AnswersEnding, Ending, IsEarly, IsOfOthers}
+use Rattle.pd_repair.specs.declared.repair.RepairFault.{RepairFault}
 use Rattle.pd_repair.specs.Faults.{output_ending}
 use Rattle.pd_repair.specs.Repaired.{AnswersSuper, CountsRepair, IsRepairedBy, NamesRules}
-use Rattle.pd_restoring.specs.Made.{AnswersEnding, Ending, IsEarly, IsOfOthers}
-use Rattle.pd_tools.specs.declared.stop.Stop.{Stop}
-use Rattle.pd_tools.specs.declared.stop.Stop.TheVariants.{Device, Memory}
+use Rattle.pd_repair.specs.declared.repair.RepairFault.TheVariants as fault
+use Rattle.pd_tools.specs.declared.ending.Stop.{Stop}
+use Rattle.pd_tools.specs.declared.ending.Stop.TheVariants.{Device, Memory}
 use Rattle.pd_tools.specs.Ending.{repair_ended}
 use Rattle.pd_tools.specs.Opened.{AreOpened, Devices, devices_of}
-use Rattle.pd_tools.specs.Saved.{saved_content}
+use Rattle.pd_tools.specs.Restore.{saved_content}
 use Rattle.pd_tools.specs.Stop.{stop_status}
-use Rattle.pd_tools.specs.Task.{AreAlone, IsAtRest, IsEnded, IsHalted, Works}
-use Rattle.pd_tools.specs.Work.{HasCause}
+use Rattle.pd_tools.specs.Task.{AreAlone, IsAtRest, IsEnded, IsHalted, Works, HasCause}
 use Rattle.pd_tools.proofs.Answered.{not_risen}
-use Rattle.pd_tools.proofs.Laying.{any_leaves, laid_kept, laid_leaves}
-use Rattle.pd_tools.proofs.Queries.{two_told}
+use Rattle.pd_tools.proofs.Laying.{any_leaves, laid_kept, laid_leaves, blocks_of, has_room, room_at_rest}
+use Rattle.pd_tools.proofs.Checks.{two_told}
 use Rattle.pd_tools.proofs.Restores.{Image, last_lost, untouched_last}
-use Rattle.pd_tools.proofs.Rooms.{blocks_of, has_room, room_at_rest}
 use Rattle.pd_tools.proofs.Tasks.{and_same}
 
 -- what is found in what the input tells

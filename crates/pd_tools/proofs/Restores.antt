@@ -5,40 +5,37 @@ use Rattle.std.specs.Option.{is_some, option_map_or}
 use Rattle.std.proofs.lemmas.Option.{IfSome_then}
 use Rattle.pd_kinds.specs.declared.kind.Kind.{Kind}
 use Rattle.pd_kinds.specs.declared.kind.Kind.TheVariants.{Thin, Cache, Era}
-use Rattle.pd_kinds.specs.Objects.{DeviceState, SourceState, SinkState, Rose}
-use Rattle.pd_kinds.specs.Moments.{History, present_moment}
+use Rattle.pd_kinds.specs.Objects.{DeviceState, SourceState, SinkState, Rose, History, present_moment}
 use Rattle.pd_kinds.specs.Crash.{IsSynced, LeavesNow, HoldsOldOrNone, HoldsSynced, HasNoSuper, IsOldNoneOrMade, IsUntouched}
 use Rattle.pd_kinds.proofs.CrashLemmas.{and_then, stays, still_tells, left_now, left_synced}
+use Rattle.pd_kinds.specs.Image.{room_of}
 use Rattle.pd_grammar.specs.Spelling.{Verdict, accepted, refused, no_room}
-use Rattle.pd_spells.specs.CacheNeed.{IsCacheVerdict}
-use Rattle.pd_spells.specs.EraNeed.{IsEraVerdict}
-use Rattle.pd_spells.specs.Lawful.{IsLawfulCache, IsLawfulEra}
-use Rattle.pd_laid.specs.Laid.{Laid}
+use Rattle.pd_grammar.specs.CacheText.{IsCacheVerdict}
+use Rattle.pd_grammar.specs.EraText.{IsEraVerdict}
+use Rattle.pd_grammar.specs.Lawful.{IsLawfulCache, IsLawfulEra}
+use Rattle.pd_grammar.specs.Early.{is_cache_early, is_era_early}
+use Rattle.pd_laid.specs.Laid.{Laid, Makes}
 use Rattle.pd_laid.specs.LaidThin.{laid_shape}
 use Rattle.pd_laid.specs.LaidCache.{laid_cache}
 use Rattle.pd_laid.specs.LaidEra.{laid_era}
-use Rattle.pd_image.specs.Device.{KeepsPlace}
-use Rattle.pd_image.specs.Source.{KeepsSource}
-use Rattle.pd_answers.specs.Answer.{Objects, IsUsed, reading, writing}
-use Rattle.pd_answers.specs.Terms.{is_possible}
-use Rattle.pd_kinds.specs.Limits.{room_of}
+use Rattle.pd_laid.specs.PoolText.{IsLawfulShape, IsPoolTextVerdict, is_pool_text_early}
+use Rattle.pd_answers.specs.Terms.{Objects, IsUsed, reading, writing, is_possible}
 use Rattle.pd_answers.specs.Outputs.{LeavesMade, LeavesMadeLast}
 use Rattle.pd_answers.specs.Restores.{IsRefusedEarly, Judged, LeavesRestored, restore_answer, restore_by, restore}
-use Rattle.pd_spells.specs.Early.{is_cache_early, is_era_early}
-use Rattle.pd_shapes.specs.PoolText.{IsLawfulShape, IsPoolTextVerdict, is_pool_text_early}
-use Rattle.pd_laid.specs.Made.{Makes}
+use Rattle.pd_image.specs.Device.{KeepsPlace}
+use Rattle.pd_image.specs.Source.{KeepsSource}
+use Rattle.pd_texts.specs.declared.reader.TextFault.{TextFault}
 use Rattle.pd_restoring.specs.declared.fault.RestoreFault.{RestoreFault}
-use Rattle.pd_restoring.specs.declared.fault.RestoreFault.TheVariants as fault
 use Rattle.pd_restoring.specs.Restored.{CountsRestore, IsRestored, AnswersVerdict, IsAccepted, IsOfFirstLines, IsOfOthers, IsRefused, IsWithoutRoom}
+use Rattle.pd_restoring.specs.declared.fault.RestoreFault.TheVariants as fault
 use Rattle.pd_tools.specs.declared.ending.Ending.TheVariants.{Refused, NoRoom}
-use Rattle.pd_texts.specs.declared.fault.TextFault.{TextFault}
 use Rattle.pd_tools.proofs.Answered.{not_risen, stop_status-low}
-use Rattle.pd_tools.specs.declared.stop.Stop.{Stop}
-use Rattle.pd_tools.specs.declared.stop.Stop.TheVariants.{Device, Stream, Memory}
+use Rattle.pd_tools.specs.declared.ending.Stop.{Stop}
+use Rattle.pd_tools.specs.declared.ending.Stop.TheVariants.{Device, Stream, Memory}
 use Rattle.pd_tools.specs.Stop.{stop_status}
 use Rattle.pd_tools.specs.Ending.{ending_line, ending_status, restore_ended}
 use Rattle.pd_tools.specs.Restore.{HaveVerdicts, TextsHaveVerdicts, IsRestoredAs, AreAttached, AreUnattached, FailedToAttach}
-use Rattle.pd_tools.specs.Work.{IsStopped, IsFinished, HasCause}
+use Rattle.pd_tools.specs.Task.{IsStopped, IsFinished, HasCause}
 use Rattle.pd_tools.proofs.Works.{Stands, by_stop, finished_early, stopped_early}
 
 abbrev pub Image : Type 0

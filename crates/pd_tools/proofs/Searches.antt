@@ -5,44 +5,37 @@ use Rattle.std.proofs.lemmas.Bool.{lt-ltb, le-ltb}
 use Rattle.pd_kinds.specs.declared.limits.TheConstants.{MAX_META_BLOCKS}
 use Rattle.pd_kinds.specs.Objects.{DeviceState, SinkState, Rose}
 use Rattle.pd_kinds.specs.Crash.{IsUntouched}
-use Rattle.pd_kinds.specs.Image.{HasBytes}
+use Rattle.pd_kinds.specs.Image.{HasBytes, room_of}
 use Rattle.pd_kinds.specs.Layout.{graph_of}
-use Rattle.pd_kinds.specs.Limits.{room_of}
-use Rattle.pd_spells.specs.Lines.{no_room_line}
+use Rattle.pd_kinds.specs.ThinFormat.{ThinFields}
+use Rattle.pd_grammar.specs.Lines.{no_room_line}
 use Rattle.pd_laid.specs.FoundRoots.{AreBest, FoundRoots, IsFound, are_fitting, found_pool, lost_graph}
-use Rattle.pd_laid.specs.Salvage.{salvage_from}
-use Rattle.pd_shapes.specs.SavedShape.{saved_shape_from}
-use Rattle.pd_image.specs.Device.{KeepsPlace, OnlyReads}
-use Rattle.pd_answers.specs.Answer.{Answer, AreFresh, Objects}
-use Rattle.pd_answers.specs.Makings.{Lays, Making}
+use Rattle.pd_laid.specs.Salvage.{salvage_from, saved_shape_from}
+use Rattle.pd_answers.specs.Terms.{Answer, AreFresh, Objects, Terms, is_possible}
+use Rattle.pd_answers.specs.Outputs.{Lays, Making}
 use Rattle.pd_answers.specs.Repairs.{Saved, saved_making, saved_of}
-use Rattle.pd_answers.specs.Searches.{LeavesFound, Searched, found_from, found_shape, saved_from, searched_answer}
-use Rattle.pd_answers.specs.Seen.{seen, timed}
-use Rattle.pd_answers.specs.SearchLines.{no_roots_line, roots_line}
-use Rattle.pd_answers.specs.Terms.{Terms, is_possible}
-use Rattle.pd_repair.specs.declared.fault.RepairFault.{RepairFault}
-use Rattle.pd_repair.specs.declared.fault.RepairFault.TheVariants as fault
+use Rattle.pd_answers.specs.Searches.{LeavesFound, Searched, found_from, found_shape, saved_from, searched_answer, seen, timed, no_roots_line, roots_line}
+use Rattle.pd_answers.specs.declared.request.GivenSuper.{GivenSuper}
+use Rattle.pd_image.specs.Device.{KeepsPlace, OnlyReads}
+use Rattle.pd_restoring.specs.Made.{AnswersEnding, Content, IsEarly, IsDone as IsMadeDone}
+use Rattle.pd_repair.specs.declared.repair.RepairFault.{RepairFault}
 use Rattle.pd_repair.specs.Faults.{output_ending}
 use Rattle.pd_repair.specs.Repaired.{BlamesOne, IsOther, IsRepairedFromAs}
-use Rattle.pd_restoring.specs.Made.{AnswersEnding, Content, IsEarly, IsDone as IsMadeDone}
-use Rattle.pd_scan.specs.Roots.{lost_fields}
-use Rattle.pd_words.specs.declared.request.GivenSuper.{GivenSuper}
-use Rattle.pd_tools.specs.declared.stop.Stop.{Stop}
-use Rattle.pd_tools.specs.declared.stop.Stop.TheVariants.{Device, Memory}
+use Rattle.pd_repair.specs.declared.repair.RepairFault.TheVariants as fault
+use Rattle.pd_scan.specs.Pairs.{lost_fields}
+use Rattle.pd_tools.specs.declared.ending.Stop.{Stop}
+use Rattle.pd_tools.specs.declared.ending.Stop.TheVariants.{Device, Memory}
 use Rattle.pd_tools.specs.Ending.{repair_ended}
 use Rattle.pd_tools.specs.Opened.{AreOpened, Devices, devices_of}
-use Rattle.pd_kinds.specs.ThinSuper.{ThinFields}
-use Rattle.pd_tools.specs.Saved.{saved_by, saved_content, seen_by}
-use Rattle.pd_tools.specs.Search.{terms_of_search}
+use Rattle.pd_tools.specs.Restore.{saved_by, saved_content, seen_by}
+use Rattle.pd_tools.specs.Given.{terms_of_search}
 use Rattle.pd_tools.specs.Stop.{stop_status}
-use Rattle.pd_tools.specs.Task.{AreAlone, IsAtRest, IsDone, IsEnded, IsHalted, IsMeasured, Works}
-use Rattle.pd_tools.specs.Work.{HasCause}
+use Rattle.pd_tools.specs.Task.{AreAlone, IsAtRest, IsDone, IsEnded, IsHalted, IsMeasured, Works, HasCause}
 use Rattle.pd_tools.proofs.BestRoots.{best_roots}
-use Rattle.pd_tools.proofs.Laying.{first_alone, first_done, first_failed, first_lacking, first_lost, first_spared}
-use Rattle.pd_tools.proofs.Queries.{one_told, two_told}
+use Rattle.pd_tools.proofs.Laying.{first_alone, first_done, first_failed, first_lacking, first_lost, first_spared, blocks_of, has_room, room_at_rest}
+use Rattle.pd_tools.proofs.Checks.{one_told, two_told}
 use Rattle.pd_tools.proofs.Repairs.{of_ending}
 use Rattle.pd_tools.proofs.Restores.{Image}
-use Rattle.pd_tools.proofs.Rooms.{blocks_of, has_room, room_at_rest}
 use Rattle.pd_tools.proofs.Tasks.{halted_at_rest, read_alone, read_by}
 
 -- what is right to find in what is told

@@ -6,45 +6,38 @@ use Rattle.std.proofs.lemmas.Option.{IfSome_then}
 use Rattle.pd_kinds.specs.declared.kind.Kind.TheVariants.{Thin}
 use Rattle.pd_kinds.specs.declared.kind.Stage.TheVariants.{Counts}
 use Rattle.pd_kinds.specs.Crash.{HoldsOldOrNone, HoldsSynced, IsSynced, IsUntouched}
-use Rattle.pd_kinds.specs.Limits.{room_of}
+use Rattle.pd_kinds.specs.Image.{room_of}
 use Rattle.pd_kinds.specs.Objects.{DeviceState, SinkState, Rose}
-use Rattle.pd_kinds.specs.Report.{Reported, report_of}
+use Rattle.pd_kinds.specs.Rule.{Reported, report_of}
 use Rattle.pd_kinds.specs.Stages.{faults}
 use Rattle.pd_kinds.proofs.CrashLemmas.{and_then, stays, still_tells}
-use Rattle.pd_spells.specs.Lines.{no_room_line, reported_lines}
-use Rattle.pd_answers.specs.Answer.{Answer, Objects, AreFresh}
-use Rattle.pd_answers.specs.CachedView.{blocks_each}
-use Rattle.pd_answers.specs.Makings.{Lays}
-use Rattle.pd_answers.specs.MovedPool.{copy_of_move, data_after, end_of_pool, free_blocks, moves_to, sources}
-use Rattle.pd_answers.specs.MovedShape.{saved_pool, saved_whole}
-use Rattle.pd_answers.specs.Outputs.{HoldsMade, IsWorkDone, LeavesMade}
-use Rattle.pd_answers.specs.Shrinks.{IsGroundOf, LaysShrunk, ShrinkLack, LeavesShrunk, ShrinkFound, ShrinkGround, answer_to, bad_block_size, lack_of, making_after, moved_line, moves_of, no_room, pool_before, shrink, shrink_answer}
-use Rattle.pd_answers.specs.Terms.{is_possible}
-use Rattle.pd_answers.specs.Writebacks.{block_size_line}
+use Rattle.pd_grammar.specs.Lines.{no_room_line, reported_lines}
+use Rattle.pd_answers.specs.Terms.{Answer, Objects, AreFresh, is_possible}
+use Rattle.pd_answers.specs.Writebacks.{blocks_each, block_size_line}
+use Rattle.pd_answers.specs.Outputs.{Lays, HoldsMade, IsWorkDone, LeavesMade}
+use Rattle.pd_answers.specs.Shrinks.{copy_of_move, data_after, end_of_pool, free_blocks, moves_to, sources, saved_pool, saved_whole, IsGroundOf, LaysShrunk, ShrinkLack, LeavesShrunk, ShrinkFound, ShrinkGround, answer_to, bad_block_size, lack_of, making_after, moved_line, moves_of, no_room, pool_before, shrink, shrink_answer}
 use Rattle.pd_restoring.specs.Made.{Ending, IsDone, IsMade, done, lacking}
-use Rattle.pd_shrink.specs.declared.fault.ShrinkFault.{ShrinkFault}
-use Rattle.pd_shrink.specs.declared.fault.ShrinkFault.TheVariants as s
+use Rattle.pd_shrink.specs.declared.making.ShrinkFault.{ShrinkFault}
 use Rattle.pd_shrink.specs.declared.plan.Shrink.{Shrink}
 use Rattle.pd_shrink.specs.Failing.{IsOfPlanning}
 use Rattle.pd_shrink.specs.Planned.{HasLack, IsPlanned, IsUnplanned, content_after}
-use Rattle.pd_tools.specs.declared.stop.Stop.{Stop}
-use Rattle.pd_tools.specs.declared.stop.Stop.TheVariants.{Device, Stream, Memory}
+use Rattle.pd_shrink.specs.declared.making.ShrinkFault.TheVariants as s
+use Rattle.pd_tools.specs.declared.ending.Stop.{Stop}
+use Rattle.pd_tools.specs.declared.ending.Stop.TheVariants.{Device, Stream, Memory}
 use Rattle.pd_tools.specs.Ending.{shrink_ended}
-use Rattle.pd_tools.specs.Read.{IsUnread}
+use Rattle.pd_tools.specs.Query.{IsUnread}
 use Rattle.pd_tools.specs.Opened.{AreOpened, Devices, devices, devices_of}
 use Rattle.pd_tools.specs.Shrink.{FailsToMove, GoesAsFar, HasMoved, IsWritten}
 use Rattle.pd_tools.specs.Stop.{stop_status}
-use Rattle.pd_tools.specs.Task as work
-use Rattle.pd_tools.specs.Task.{AreAlone, IsAtRest, IsEnded, IsHalted, Works}
-use Rattle.pd_tools.specs.Work.{HasCause}
+use Rattle.pd_tools.specs.Task.{AreAlone, IsAtRest, IsEnded, IsHalted, Works, HasCause}
 use Rattle.pd_tools.proofs.Answered.{not_risen}
-use Rattle.pd_tools.proofs.Laying.{laid_kept, laid_leaves}
-use Rattle.pd_tools.proofs.Queries.{none_at_super, one_told, two_told}
+use Rattle.pd_tools.proofs.Laying.{laid_kept, laid_leaves, blocks_at_rest, blocks_of, has_blocks, has_room, room_at_rest}
+use Rattle.pd_tools.proofs.Checks.{none_at_super, one_told, two_told}
 use Rattle.pd_tools.proofs.Restores.{Image, left_lost, same_held, still_synced, untouched_output}
-use Rattle.pd_tools.proofs.Rooms.{blocks_at_rest, blocks_of, has_blocks, has_room, room_at_rest}
 use Rattle.pd_tools.proofs.Tasks.{and_same, halted_at_rest, read_alone, read_by, unread, unread_first}
 use Rattle.pd_tools.proofs.Writebacks.{here_kept, if_any}
 use Rattle.pd_tools.proofs.Works.{not_done, still_done}
+use Rattle.pd_tools.specs.Task as work
 
 -- what is right to find of the metadata
 abbrev IsRight : {shared : Bool} → ℕ → Option Image → Reported → ShrinkGround shared → Type 0

@@ -5,21 +5,19 @@ use Rattle.pd_kinds.specs.declared.kind.Stage.{Stage}
 use Rattle.pd_kinds.specs.Objects.{AppendsFront, DeviceState, SinkState}
 use Rattle.pd_kinds.specs.Crash.{IsUntouched}
 use Rattle.pd_kinds.specs.Stages.{CanWantMemory}
-use Rattle.pd_answers.specs.Answer.{Answer, AreFresh, IsNamed, IsOpen, IsUsed, Objects, Use, unused, reading, writing}
-use Rattle.pd_answers.specs.Terms.{AreOpen, Changes, IsKept, Terms, Uses, is_possible}
+use Rattle.pd_answers.specs.Terms.{Answer, AreFresh, IsNamed, IsOpen, IsUsed, Objects, Use, unused, reading, writing, AreOpen, Changes, IsKept, Terms, Uses, is_possible}
 use Rattle.pd_kept.specs.States.{looked_text}
 use Rattle.pd_tools.specs.declared.ending.Ending.{Ending}
 use Rattle.pd_tools.specs.declared.ending.Ending.TheVariants.{Done, Faulty, Refused, NoRoom, BlockSize, NoRoots}
 use Rattle.pd_tools.specs.declared.ending.Outcome.{Outcome}
 use Rattle.pd_tools.specs.declared.ending.Outcome.TheVariants.{Line, Told, Ended}
-use Rattle.pd_tools.specs.declared.stop.Stop.{Stop}
-use Rattle.pd_tools.specs.declared.stop.Stop.TheVariants.{Device, Stream, Memory}
+use Rattle.pd_tools.specs.declared.ending.Stop.{Stop}
+use Rattle.pd_tools.specs.declared.ending.Stop.TheVariants.{Device, Stream, Memory}
 use Rattle.pd_tools.specs.Ending.{ending_line, ending_status}
 use Rattle.pd_tools.specs.Opened.{AreOpened, AreUnopened, AsksAs, Devices, IsOpened, KeepsAs, OpensAs, devices_of}
-use Rattle.pd_tools.specs.Read.{IsUnread}
+use Rattle.pd_tools.specs.Query.{IsUnread}
 use Rattle.pd_tools.specs.Stop.{stop_status}
-use Rattle.pd_tools.specs.Task.{AreAlone, Ends, IsAtRest, IsDone, IsEnded, IsHalted, IsMeasured, LosesLine, PutsLast, PutsOutcome, Works}
-use Rattle.pd_tools.specs.Work.{HasCause, IsFinished, IsFollowed, IsStopped}
+use Rattle.pd_tools.specs.Task.{AreAlone, Ends, IsAtRest, IsDone, IsEnded, IsHalted, IsMeasured, LosesLine, PutsLast, PutsOutcome, Works, HasCause, IsFinished, IsFollowed, IsStopped}
 use Rattle.pd_tools.proofs.Answered.{after_notes, after_notes_alone, no_turn, not_yet, stop_status-low}
 use Rattle.pd_tools.proofs.Works.{Stands, finished_by, finished_early, stopped_by, stopped_early}
 

@@ -4,15 +4,14 @@ use Rattle.pd_kinds.specs.declared.kind.Kind.{Kind}
 use Rattle.pd_kinds.specs.declared.kind.Stage.{Stage}
 use Rattle.pd_kinds.specs.Objects.{Appends, AppendsFront}
 use Rattle.pd_kinds.specs.Stages.{CanWantMemory}
-use Rattle.pd_kinds.proofs.AppendLemmas.{appends_none, front_none}
-use Rattle.pd_answers.specs.Answer.{Answer, Objects, IsOpen}
+use Rattle.pd_kinds.proofs.ListLemmas.{appends_none, front_none}
+use Rattle.pd_answers.specs.Terms.{Answer, Objects, IsOpen, Terms, AreKept, AreOpen, IsReadWhole, is_one_of, is_possible}
 use Rattle.pd_answers.specs.Outputs.{IsWorkDone}
-use Rattle.pd_answers.specs.Terms.{Terms, AreKept, AreOpen, IsReadWhole, is_one_of, is_possible}
-use Rattle.pd_tools.specs.declared.stop.Stop.{Stop}
-use Rattle.pd_tools.specs.declared.stop.Stop.TheVariants.{Device, Stream, Memory}
-use Rattle.pd_tools.specs.Read.{IsUnread}
+use Rattle.pd_tools.specs.declared.ending.Stop.{Stop}
+use Rattle.pd_tools.specs.declared.ending.Stop.TheVariants.{Device, Stream, Memory}
+use Rattle.pd_tools.specs.Query.{IsUnread}
 use Rattle.pd_tools.specs.Stop.{stop_status}
-use Rattle.pd_tools.specs.Work.{AreFollowed, AreInTurn, HasCause, IsFinished, IsStopped, IsWork}
+use Rattle.pd_tools.specs.Task.{AreFollowed, AreInTurn, HasCause, IsFinished, IsStopped, IsWork}
 
 -- one of two statuses
 pub by_clean : (P : ℕ → Type 0) (clean : Bool) → P 0 → P 1 → P (if clean then 0 else 1)

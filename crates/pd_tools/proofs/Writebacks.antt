@@ -10,34 +10,29 @@ use Rattle.pd_kinds.specs.declared.kind.Kind.TheVariants.{Cache}
 use Rattle.pd_kinds.specs.declared.kind.Stage.TheVariants.{Whole}
 use Rattle.pd_kinds.specs.Crash.{HoldsSynced, IsSynced, IsUntouched, LeavesNow, LeavesOnly}
 use Rattle.pd_kinds.specs.Meaning.{cache_meaning}
-use Rattle.pd_kinds.specs.Moments.{present_moment}
-use Rattle.pd_kinds.specs.Objects.{DeviceState, SinkState, Rose}
-use Rattle.pd_kinds.specs.Report.{Reported, report_of}
+use Rattle.pd_kinds.specs.Objects.{present_moment, DeviceState, SinkState, Rose}
+use Rattle.pd_kinds.specs.Rule.{Reported, report_of}
 use Rattle.pd_kinds.specs.Stages.{faults}
 use Rattle.pd_kinds.proofs.CrashLemmas.{and_then, stays, still_tells, left_now, left_synced}
-use Rattle.pd_spells.specs.Lines.{no_room_line, reported_lines}
-use Rattle.pd_answers.specs.Answer.{Answer, Objects, AreFresh}
-use Rattle.pd_answers.specs.CachedView.{CachedBlock, blocks_each, copied, fast_need, hot_blocks, is_block_size_bad, origin_need, settled}
+use Rattle.pd_grammar.specs.Lines.{no_room_line, reported_lines}
+use Rattle.pd_answers.specs.Terms.{Answer, Objects, AreFresh, is_possible}
+use Rattle.pd_answers.specs.Writebacks.{CachedBlock, blocks_each, copied, fast_need, hot_blocks, is_block_size_bad, origin_need, settled, AllTold, KeepsOthers, LeavesWrittenBack, WritebackFound, block_size_line, copied_line, writeback, writeback_answer}
 use Rattle.pd_answers.specs.Outputs.{IsWorkDone}
-use Rattle.pd_answers.specs.Terms.{is_possible}
-use Rattle.pd_answers.specs.Writebacks.{AllTold, KeepsOthers, LeavesWrittenBack, WritebackFound, block_size_line, copied_line, writeback, writeback_answer}
-use Rattle.pd_writeback.specs.declared.fault.WriteFault.{WriteFault}
-use Rattle.pd_writeback.specs.declared.fault.WriteFault.TheVariants as w
+use Rattle.pd_writeback.specs.declared.making.WriteFault.{WriteFault}
 use Rattle.pd_writeback.specs.declared.plan.Plan.{Plan}
-use Rattle.pd_writeback.specs.Failing.{IsOfCopy, IsOfMarking, IsOfPlanning}
-use Rattle.pd_writeback.specs.Plan.{IsFound, IsMade, IsPlanOf, IsUnplanned, plan_hot}
-use Rattle.pd_tools.specs.declared.stop.Stop.{Stop}
-use Rattle.pd_tools.specs.declared.stop.Stop.TheVariants.{Device, Memory}
+use Rattle.pd_writeback.specs.Plan.{IsOfCopy, IsOfMarking, IsOfPlanning, IsFound, IsMade, IsPlanOf, IsUnplanned, plan_hot}
+use Rattle.pd_writeback.specs.declared.making.WriteFault.TheVariants as w
+use Rattle.pd_tools.specs.declared.ending.Stop.{Stop}
+use Rattle.pd_tools.specs.declared.ending.Stop.TheVariants.{Device, Memory}
 use Rattle.pd_tools.specs.Ending.{plan_ended}
-use Rattle.pd_tools.specs.Read.{IsUnread}
+use Rattle.pd_tools.specs.Query.{IsUnread}
 use Rattle.pd_tools.specs.Opened.{AreOpened, Devices, devices, devices_of}
 use Rattle.pd_tools.specs.Task.{AreAlone, IsAtRest, IsDone, IsEnded, IsHalted, Works}
 use Rattle.pd_tools.specs.Writeback.{HasCopied, HasMarked, IsWritten}
 use Rattle.pd_tools.proofs.Answered.{not_risen}
-use Rattle.pd_tools.proofs.Checks.{told}
-use Rattle.pd_tools.proofs.Queries.{none_at_super, one_told, two_told}
+use Rattle.pd_tools.proofs.Checks.{told, none_at_super, one_told, two_told}
 use Rattle.pd_tools.proofs.Restores.{Image, here, still_synced}
-use Rattle.pd_tools.proofs.Rooms.{blocks_at_rest, blocks_of, has_blocks}
+use Rattle.pd_tools.proofs.Laying.{blocks_at_rest, blocks_of, has_blocks}
 use Rattle.pd_tools.proofs.Tasks.{and_same, halted_at_rest, read_alone, read_by, unread, unread_first}
 use Rattle.pd_tools.proofs.Works.{not_done, still_done}
 

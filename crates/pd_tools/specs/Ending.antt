@@ -1,32 +1,55 @@
 -- How the work of a tool ends.
-use Rattle.std.specs.Prelude.{◌≡◌, ℕ, List, [], Result, Ok, Err}
-use Rattle.pd_kinds.specs.Faults.{faults_at}
-use Rattle.pd_kinds.specs.Objects.{SinkState}
-use Rattle.pd_kinds.specs.Report.{report_of}
-use Rattle.pd_kinds.specs.RuleSet.{has_rule}
-use Rattle.pd_spells.specs.Lines.{no_room_line, refusal_line, reported_lines}
-use Rattle.pd_answers.specs.Generated.{rehearsal_line}
-use Rattle.pd_answers.specs.SearchLines.{no_roots_line}
+-- What a call that ends with a line on `notes` does.
+use Rattle.std.specs.Prelude.{◌≡◌, ◌⊎◌, ℕ, List, [], IfSome, Result, Ok, Err}
+use Rattle.pd_kinds.specs.Objects.{SinkState, Rose, Appends, AppendsFront}
+use Rattle.pd_kinds.specs.Rule.{faults_at, report_of, has_rule}
+use Rattle.pd_grammar.specs.Lines.{no_room_line, refusal_line, reported_lines}
+use Rattle.pd_answers.specs.Rehearsals.{rehearsal_line}
+use Rattle.pd_answers.specs.Searches.{no_roots_line}
 use Rattle.pd_answers.specs.Writebacks.{block_size_line}
+use Rattle.pd_gen.specs.declared.rehearsal.RehearseFault.{RehearseFault}
+use Rattle.pd_gen.specs.declared.rehearsal.Rehearsal.{Rehearsal}
+use Rattle.pd_gen.specs.declared.rehearsal.RehearseFault.TheVariants as q
 use Rattle.pd_restoring.specs.declared.fault.RestoreFault.{RestoreFault}
 use Rattle.pd_restoring.specs.declared.fault.RestoreFault.TheVariants as r
-use Rattle.pd_repair.specs.declared.fault.RepairFault.{RepairFault}
-use Rattle.pd_repair.specs.declared.fault.RepairFault.TheVariants as f
-use Rattle.pd_rehearse.specs.declared.fault.RehearseFault.{RehearseFault}
-use Rattle.pd_rehearse.specs.declared.fault.RehearseFault.TheVariants as q
-use Rattle.pd_rehearse.specs.declared.run.Rehearsal.{Rehearsal}
-use Rattle.pd_writeback.specs.declared.fault.WriteFault.{WriteFault}
-use Rattle.pd_writeback.specs.declared.fault.WriteFault.TheVariants as w
-use Rattle.pd_shrink.specs.declared.fault.ShrinkFault.{ShrinkFault}
-use Rattle.pd_shrink.specs.declared.fault.ShrinkFault.TheVariants as s
+use Rattle.pd_repair.specs.declared.repair.RepairFault.{RepairFault}
+use Rattle.pd_repair.specs.declared.repair.RepairFault.TheVariants as f
+use Rattle.pd_writeback.specs.declared.making.WriteFault.{WriteFault}
+use Rattle.pd_writeback.specs.declared.making.WriteFault.TheVariants as w
+use Rattle.pd_shrink.specs.declared.making.ShrinkFault.{ShrinkFault}
+use Rattle.pd_shrink.specs.declared.making.ShrinkFault.TheVariants as s
 use Rattle.pd_tools.specs.declared.ending.Ending.{Ending}
 use Rattle.pd_tools.specs.declared.ending.Ending.TheVariants.{Done, Faulty, Refused, NoRoom, BlockSize, NoRoots}
 use Rattle.pd_tools.specs.declared.ending.Outcome.{Outcome}
 use Rattle.pd_tools.specs.declared.ending.Outcome.TheVariants.{Line, Ended}
-use Rattle.pd_tools.specs.declared.stop.Stop.{Stop}
-use Rattle.pd_tools.specs.declared.stop.Stop.TheVariants.{Device, Stream, Memory}
-use Rattle.pd_tools.specs.Notes.{PutsLine}
+use Rattle.pd_tools.specs.declared.ending.Stop.{Stop}
+use Rattle.pd_tools.specs.declared.ending.Stop.TheVariants.{Device, Stream, Memory}
 use Rattle.pd_tools.specs.Stop.{stop_line, stop_status}
+
+-- the line was put, and the status is the wanted one
+pub record IsPut (line : List ℕ) (wanted given : ℕ) (old new : SinkState) : Type 0 where
+  pub status : given ≡ wanted
+  pub whole : Appends line old.written new.written
+  pub faults : new.faults ≡ old.faults
+
+-- the sink failed, and the status is 6
+pub record IsLost (given : ℕ) (old new : SinkState) : Type 0 where
+  pub status : given ≡ 6
+  pub faults : Rose old.faults new.faults
+
+-- a line was put, or the sink failed
+pub record PutsLine (line : List ℕ) (wanted given : ℕ) (old new : SinkState) : Type 0 where
+  pub outcome : IsPut line wanted given old new ⊎ IsLost given old new
+  pub front : AppendsFront line old.written new.written
+  pub access : new.access ≡ old.access
+  pub path : new.path ≡ old.path
+
+-- `notes` after it was attached: nothing was written, and nothing failed
+pub record IsAttachedNotes (notes attached : SinkState) : Type 0 where
+  pub access : attached.access ≡ 1
+  pub path : IfSome attached.path (λ told. told ≡ [])
+  pub written : attached.written ≡ notes.written
+  pub faults : attached.faults ≡ notes.faults
 
 -- the status of an ending, and what goes to `notes`
 abbrev pub ending_status : Ending → ℕ

@@ -2,12 +2,11 @@
 use Rattle.std.specs.Prelude.{◌≡◌, ◌⊎◌}
 use Rattle.pd_kinds.specs.Objects.{DeviceState, Rose}
 use Rattle.pd_kinds.specs.Crash.{IsUntouched}
+use Rattle.pd_answers.specs.Terms.{IsNamed, IsOpen, IsUsed, Objects, Use, unused, reading, writing, ComesAfter, Uses}
 use Rattle.pd_image.specs.Device.{KeepsPlace, OnlyReads}
-use Rattle.pd_answers.specs.Answer.{IsNamed, IsOpen, IsUsed, Objects, Use, unused, reading, writing}
-use Rattle.pd_answers.specs.Terms.{ComesAfter, Uses}
-use Rattle.pd_tools.specs.declared.opening.DevicePath.{DevicePath}
-use Rattle.pd_tools.specs.declared.opening.DevicePath.TheVariants.{Unused, Reading, Writing}
-use Rattle.pd_tools.specs.declared.opening.Places.{Places}
+use Rattle.pd_tools.specs.declared.task.DevicePath.{DevicePath}
+use Rattle.pd_tools.specs.declared.task.DevicePath.TheVariants.{Unused, Reading, Writing}
+use Rattle.pd_tools.specs.declared.task.Places.{Places}
 
 -- the states of the three devices
 pub record Devices : Type 0 where

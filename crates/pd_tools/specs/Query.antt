@@ -1,12 +1,17 @@
 -- What a query of an image does.
-use Rattle.std.specs.Prelude.{ℕ, ◌==◌, if◌then◌else◌, List, []}
-use Rattle.pd_kinds.specs.Objects.{Rose}
-use Rattle.pd_kinds.specs.Report.{Reported}
-use Rattle.pd_spells.specs.Lines.{reported_lines}
-use Rattle.pd_query.specs.declared.fault.QueryFault.{QueryFault}
-use Rattle.pd_query.specs.declared.fault.QueryFault.TheVariants as f
-use Rattle.pd_tools.specs.declared.stop.Stop.{Stop}
-use Rattle.pd_tools.specs.declared.stop.Stop.TheVariants.{Device, Stream, Memory}
+-- What reading an image to a report does to the device.
+use Rattle.std.specs.Prelude.{ℕ, ◌==◌, if◌then◌else◌, List, [], Bool}
+use Rattle.pd_kinds.specs.Objects.{Rose, DeviceState}
+use Rattle.pd_kinds.specs.Rule.{Reported}
+use Rattle.pd_kinds.specs.declared.kind.Kind.{Kind}
+use Rattle.pd_kinds.specs.declared.kind.Stage.{Stage}
+use Rattle.pd_kinds.specs.Stages.{CanWantMemory}
+use Rattle.pd_grammar.specs.Lines.{reported_lines}
+use Rattle.pd_answers.specs.Terms.{Use, reading, writing}
+use Rattle.pd_query.specs.declared.query.QueryFault.{QueryFault}
+use Rattle.pd_query.specs.declared.query.QueryFault.TheVariants as f
+use Rattle.pd_tools.specs.declared.ending.Stop.{Stop}
+use Rattle.pd_tools.specs.declared.ending.Stop.TheVariants.{Device, Stream, Memory}
 
 -- the status after a check with this report, and the line that goes to `notes`
 abbrev pub query_status : Reported → ℕ
@@ -26,3 +31,13 @@ abbrev pub IsUnput : ℕ → ℕ → ℕ → ℕ → Stop → Type 0
 IsUnput input input' out out' Memory = Unit {0}
 IsUnput input input' out out' Device = Rose input input'
 IsUnput input input' out out' Stream = Rose out out'
+
+-- how a device is named that is attached for reading, or for writing too
+abbrev pub attached_for : Bool → List ℕ → Use
+attached_for write path = if write then writing path else reading path
+
+-- why the device was not read to a report
+abbrev pub IsUnread : Kind → Stage → DeviceState → DeviceState → Stop → Type 0
+IsUnread kind until input input' Memory = CanWantMemory kind until input.held
+IsUnread kind until input input' Device = Rose input.faults input'.faults
+IsUnread kind until input input' Stream = ⊥

@@ -1,23 +1,30 @@
 -- What a restore does to its objects, for each kind.
-use Rattle.std.specs.Prelude.{◌≡◌, ◌≢◌, ℕ, List, Result, IfSome}
+-- What a repair writes of a pool, as what is written.
+use Rattle.std.specs.Prelude.{◌≡◌, ◌≢◌, ℕ, List, Result, IfSome, Bool, true, false}
 use Rattle.pd_kinds.specs.declared.kind.Kind.{Kind}
 use Rattle.pd_kinds.specs.declared.kind.Kind.TheVariants.{Thin, Cache, Era}
 use Rattle.pd_kinds.specs.Objects.{DeviceState, SourceState, Rose}
 use Rattle.pd_kinds.specs.Crash.{IsUntouched}
+use Rattle.pd_kinds.specs.ThinFormat.{ThinFields}
 use Rattle.pd_grammar.specs.Spelling.{Verdict}
-use Rattle.pd_spells.specs.Lawful.{IsLawfulCache, IsLawfulEra}
-use Rattle.pd_spells.specs.CacheNeed.{IsCacheVerdict}
-use Rattle.pd_spells.specs.EraNeed.{IsEraVerdict}
+use Rattle.pd_grammar.specs.Lawful.{IsLawfulCache, IsLawfulEra}
+use Rattle.pd_grammar.specs.CacheText.{IsCacheVerdict}
+use Rattle.pd_grammar.specs.EraText.{IsEraVerdict}
+use Rattle.pd_grammar.specs.Early.{is_cache_early, is_era_early}
 use Rattle.pd_laid.specs.LaidThin.{laid_shape}
 use Rattle.pd_laid.specs.LaidCache.{laid_cache}
 use Rattle.pd_laid.specs.LaidEra.{laid_era}
-use Rattle.pd_answers.specs.Answer.{IsUsed, reading, writing}
-use Rattle.pd_spells.specs.Early.{is_cache_early, is_era_early}
-use Rattle.pd_shapes.specs.PoolText.{IsLawfulShape, IsPoolTextVerdict, is_pool_text_early}
+use Rattle.pd_laid.specs.PoolText.{IsLawfulShape, IsPoolTextVerdict, is_pool_text_early}
+use Rattle.pd_laid.specs.Salvage.{salvage_from, saved_shape_from}
+use Rattle.pd_answers.specs.Terms.{IsUsed, reading, writing}
+use Rattle.pd_answers.specs.Repairs.{Saved}
+use Rattle.pd_answers.specs.Searches.{seen, timed}
 use Rattle.pd_restoring.specs.declared.fault.RestoreFault.{RestoreFault}
 use Rattle.pd_restoring.specs.Restored.{IsRestored}
-use Rattle.pd_tools.specs.declared.stop.Stop.{Stop}
-use Rattle.pd_tools.specs.declared.stop.Stop.TheVariants.{Device, Stream, Memory}
+-- with the shared leaves or without
+pub use Rattle.pd_shrink.specs.Kept.{IsLawfulSaved, saved_content}
+use Rattle.pd_tools.specs.declared.ending.Stop.{Stop}
+use Rattle.pd_tools.specs.declared.ending.Stop.TheVariants.{Device, Stream, Memory}
 
 -- each text of the kind has a verdict, whatever the room
 abbrev pub HaveVerdicts : {M : Type 0} → (List ℕ → ℕ → Verdict M → Type 0) → Type 0
@@ -60,3 +67,12 @@ pub record AreUnattached (file path : List ℕ) (source attached : SourceState) 
   pub order : opened.access ≢ 0 → attached.access ≡ 1
   pub untouched : IsUntouched output opened
   pub cause : FailedToAttach source attached output opened stop
+
+-- what is saved by a superblock with these fields
+abbrev pub saved_by : (shared : Bool) → ThinFields → List (List ℕ) → Saved shared
+saved_by false = salvage_from
+saved_by true = saved_shape_from
+
+-- the same with this as the pool's time, and with sharing seen in it
+abbrev pub seen_by : (shared : Bool) → ℕ → ThinFields → List (List ℕ) → Saved shared
+seen_by shared time fields image = seen shared (timed shared time (saved_by shared fields image))

@@ -2,17 +2,15 @@
 use Rattle.std.specs.Prelude.{◌≡◌, ◌⊎◌, ℕ, Bool, List, [], map, Result, Ok, Err}
 use Rattle.pd_kinds.specs.Objects.{Rose}
 use Rattle.pd_kinds.specs.Crash.{HoldsSynced, IsUntouched, LeavesOnly, StillTells}
+use Rattle.pd_answers.specs.Writebacks.{blocks_each, KeepsOthers}
+use Rattle.pd_answers.specs.Shrinks.{copy_of_move, data_after, ShrinkGround, moves_of, pool_before}
 use Rattle.pd_image.specs.Device.{KeepsPlace}
-use Rattle.pd_answers.specs.CachedView.{blocks_each}
-use Rattle.pd_answers.specs.MovedPool.{copy_of_move, data_after}
-use Rattle.pd_answers.specs.Shrinks.{ShrinkGround, moves_of, pool_before}
-use Rattle.pd_answers.specs.Writebacks.{KeepsOthers}
 use Rattle.pd_restoring.specs.Made.{Ending, IsMade, done, failed, lacking}
 use Rattle.pd_shrink.specs.declared.plan.Shrink.{Shrink}
 use Rattle.pd_shrink.specs.Moves.{moves_in}
 use Rattle.pd_shrink.specs.Planned.{IsPlanOf, content_after}
-use Rattle.pd_tools.specs.declared.stop.Stop.{Stop}
-use Rattle.pd_tools.specs.declared.stop.Stop.TheVariants.{Device, Stream, Memory}
+use Rattle.pd_tools.specs.declared.ending.Stop.{Stop}
+use Rattle.pd_tools.specs.declared.ending.Stop.TheVariants.{Device, Stream, Memory}
 use Rattle.pd_tools.specs.Opened.{Devices}
 
 -- the data device has all that the plan moves in its place, with nothing unsynced, and then the new metadata were written

@@ -1,10 +1,10 @@
 -- What keeps a request from its answer.
 use Rattle.std.specs.Prelude.{ℕ, List}
-use Rattle.pd_spells.specs.Lines.{device_line, sink_line, memory_line}
-use Rattle.pd_salvage.specs.declared.fault.SalvageFault.{SalvageFault}
-use Rattle.pd_salvage.specs.declared.fault.SalvageFault.TheVariants as f
-use Rattle.pd_tools.specs.declared.stop.Stop.{Stop}
-use Rattle.pd_tools.specs.declared.stop.Stop.TheVariants.{Device, Stream, Memory}
+use Rattle.pd_grammar.specs.Lines.{device_line, sink_line, memory_line}
+use Rattle.pd_salvage.specs.declared.saved.SalvageFault.{SalvageFault}
+use Rattle.pd_salvage.specs.declared.saved.SalvageFault.TheVariants as f
+use Rattle.pd_tools.specs.declared.ending.Stop.{Stop}
+use Rattle.pd_tools.specs.declared.ending.Stop.TheVariants.{Device, Stream, Memory}
 
 abbrev pub stop_line : Stop → List ℕ
 stop_line Device = device_line

@@ -6,10 +6,10 @@ use Rattle.pd_kinds.specs.declared.kind.Stage.TheVariants.{Whole}
 use Rattle.pd_kinds.specs.Objects.{Rose}
 use Rattle.pd_kinds.specs.Crash.{HoldsSynced, IsOldNoneOrMade, IsUntouched, LeavesOnly, StillTells}
 use Rattle.pd_kinds.specs.Stages.{faults}
+use Rattle.pd_answers.specs.Writebacks.{CachedBlock, copied, settled}
 use Rattle.pd_image.specs.Device.{KeepsPlace, OnlyReads}
-use Rattle.pd_answers.specs.CachedView.{CachedBlock, copied, settled}
 use Rattle.pd_writeback.specs.declared.plan.Plan.{Plan}
-use Rattle.pd_writeback.specs.Overlaid.{IsLeftKept}
+use Rattle.pd_writeback.specs.Copied.{IsLeftKept}
 use Rattle.pd_writeback.specs.Plan.{IsPlanOf, plan_each, plan_hot}
 use Rattle.pd_tools.specs.Opened.{Devices}
 

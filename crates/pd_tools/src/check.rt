@@ -1,19 +1,19 @@
-//! A check, from the path of the image to the report and the status.
+//! A check, from the path of the image to the report and the status (`thin_check`, `cache_check`, `era_check`).
 
 ghost use Rattle.std.specs.Prelude.{◌≡◌, ◌+◌, [], OnOk, IfOk, IfErr, IfSome, MatchResult, if◌then◌else◌};
 ghost use Rattle.pd_kinds.specs.Objects.{CountsFault, Appends, AppendsFront, SinkState};
-ghost use Rattle.pd_kinds.specs.Report.{report_of};
+ghost use Rattle.pd_kinds.specs.Rule.{report_of};
 ghost use Rattle.pd_kinds.specs.Stages.{faults};
 ghost use Rattle.pd_kinds.specs.Crash.{IsUntouched};
-ghost use Rattle.pd_image.specs.Device.{IsAttached};
-ghost use Rattle.pd_spells.specs.Lines.{reported_lines};
-ghost use Rattle.pd_answers.specs.Answer.{Objects, IsUsed, reading};
+ghost use Rattle.pd_grammar.specs.Lines.{reported_lines};
+ghost use Rattle.pd_answers.specs.Terms.{Objects, IsUsed, reading};
 ghost use Rattle.pd_answers.specs.Promises.{check};
+ghost use Rattle.pd_image.specs.Device.{IsAttached};
 ghost use Rattle.pd_check.specs.Check.{ReadsFew};
-ghost use Rattle.pd_tools.specs.Read.{IsUnread, attached_for};
-ghost use Rattle.pd_tools.specs.Work.{IsFinished, IsStopped, AnswersTerms};
+ghost use Rattle.pd_tools.specs.Query.{IsUnread, attached_for};
+ghost use Rattle.pd_tools.specs.Task.{IsFinished, IsStopped, AnswersTerms};
 
-use crate::stop::Stop;
+use crate::ending::Stop;
 use pd_cache::check_cache;
 use pd_era::check_era;
 use pd_image::{Device, Failed, Sink};
@@ -88,7 +88,8 @@ pub fn read_report<A: Device>(
     ensures used { IsUsed (attached_for write image.now) (A.state input.new).access (A.state input.new).path }
     ensures untouched { IsUntouched (A.state input.old) (A.state input.new) }
     ensures kept { OnOk result ((A.state input.new).faults ≡ (A.state input.old).faults) }
-    ensures reads { IfSome (A.state input.old).held (λ image. ReadsFew kind until image ((A.state input.old).reads + 1) (A.state input.new).reads) }
+    ensures reads { IfSome (A.state input.old).held
+        (λ image. ReadsFew kind until image ((A.state input.old).reads + 1) (A.state input.new).reads) }
     ensures stopped { IfErr result (IsUnread kind until (A.state input.old) (A.state input.new)) }
 {
     input.attach(image, write).map_err(|_| Stop::Device)?;
@@ -109,7 +110,8 @@ pub(crate) fn check_attached<A: Device>(
     ensures blocks { (A.state input.new).blocks ≡ (A.state input.old).blocks }
     ensures untouched { IsUntouched (A.state input.old) (A.state input.new) }
     ensures kept { OnOk result ((A.state input.new).faults ≡ (A.state input.old).faults) }
-    ensures reads { IfSome (A.state input.old).held (λ image. ReadsFew kind until image ((A.state input.old).reads + 1) (A.state input.new).reads) }
+    ensures reads { IfSome (A.state input.old).held
+        (λ image. ReadsFew kind until image ((A.state input.old).reads + 1) (A.state input.new).reads) }
     ensures stopped { IfErr result (IsUnread kind until (A.state input.old) (A.state input.new)) }
 {
     let checked = match kind {

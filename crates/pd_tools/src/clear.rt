@@ -1,19 +1,20 @@
 //! The whole check of a pool or a cache, by which "needs check" is cleared where all that was found passes.
+//! Serves `thin_check` and `cache_check` with `--clear-needs-check-flag`.
 
 ghost use Rattle.std.specs.Prelude.{◌≡◌, ◌≢◌, false, ◌+◌, ◌≤◌, ℕ, [], IfOk, MatchResult, if◌then◌else◌};
-ghost use Rattle.pd_kinds.specs.Report.{passes};
+ghost use Rattle.pd_kinds.specs.Rule.{passes};
 ghost use Rattle.pd_kinds.specs.Objects.{CountsFault, SinkState};
 ghost use Rattle.pd_kinds.specs.Stages.{faults};
 ghost use Rattle.pd_kinds.specs.Crash.{IsSynced};
-ghost use Rattle.pd_image.specs.Device.{IsWritable, KeepsPlace};
-ghost use Rattle.pd_answers.specs.Answer.{Objects};
+ghost use Rattle.pd_answers.specs.Terms.{Objects};
 ghost use Rattle.pd_answers.specs.Flag.{LeavesCleared};
 ghost use Rattle.pd_answers.specs.Promises.{check_and_clear};
-ghost use Rattle.pd_tools.specs.Work.{IsFinished, IsStopped, AnswersTerms};
+ghost use Rattle.pd_image.specs.Device.{IsWritable, KeepsPlace};
+ghost use Rattle.pd_tools.specs.Task.{IsFinished, IsStopped, AnswersTerms};
 
 use crate::check::{put_report, read_report};
-use crate::stop::Stop;
-use pd_flag::clear_needs_check;
+use crate::ending::Stop;
+use pd_draft::clear_needs_check;
 use pd_image::{Device, Failed, Sink};
 use pd_kinds::{Flagged, Passing, Report, Stage};
 use std::alloc::Global;
@@ -79,8 +80,10 @@ fn clear_if_passed<A: Device>(
 ) -> Result<bool, Failed>
     requires { IsWritable (A.state input.old) }
     ensures passed { IfOk result (λ passed. passed ≡ passes passing report.now) }
-    ensures left { MatchResult result (λ passed. IsSynced (A.state input.old) → LeavesCleared flagged passing report.now (if passed then 0 else 1) (A.state input.old) (A.state input.new))
-        (λ _. IsSynced (A.state input.old) → (A.state input.old).faults ≡ 0 → (status : ℕ) → status ≢ 0 → LeavesCleared flagged passing report.now status (A.state input.old) (A.state input.new)) }
+    ensures left { MatchResult result (λ passed. IsSynced (A.state input.old)
+        → LeavesCleared flagged passing report.now (if passed then 0 else 1) (A.state input.old) (A.state input.new))
+        (λ _. IsSynced (A.state input.old) → (A.state input.old).faults ≡ 0 → (status : ℕ) → status ≢ 0
+        → LeavesCleared flagged passing report.now status (A.state input.old) (A.state input.new)) }
     ensures reads { (A.state input.new).reads ≤ (A.state input.old).reads + 1 }
     ensures unread { passes passing report.now ≡ false → (A.state input.new).reads ≡ (A.state input.old).reads }
     ensures kept { KeepsPlace (A.state input.old) (A.state input.new) }

@@ -1,21 +1,22 @@
 //! A query of an image: the check of it, and then the text that answers the query.
+//! Serves `thin_dump`, `thin_ls`, `thin_rmap`, `thin_repair --dry-run`, `cache_dump`, `era_dump`, `era_invalidate`.
 
 ghost use Rattle.std.specs.Prelude.{◌≡◌, [], IfErr, OnOk, MatchResult, unwrap_or};
 ghost use Rattle.std.specs.Option.{option_copied};
 ghost use Rattle.pd_kinds.specs.Objects.{SinkState};
-ghost use Rattle.pd_image.specs.Device.{OnlyReads};
-ghost use Rattle.pd_spells.specs.Lines.{reported_lines};
-ghost use Rattle.pd_answers.specs.Answer.{Objects, IsUsed, reading};
+ghost use Rattle.pd_grammar.specs.Lines.{reported_lines};
+ghost use Rattle.pd_answers.specs.Terms.{Objects, IsUsed, reading};
 ghost use Rattle.pd_answers.specs.Promises.{query as terms_of_query};
 ghost use Rattle.pd_answers.specs.QueryLines.{asked_kind, asked_stage, asked_text};
-ghost use Rattle.pd_query.specs.Puts.{PutsAnswer};
-ghost use Rattle.pd_words.specs.Words.{asked_as};
-ghost use Rattle.pd_tools.specs.Notes.{PutsLine};
+ghost use Rattle.pd_image.specs.Device.{OnlyReads};
+ghost use Rattle.pd_query.specs.Query.{PutsAnswer};
+ghost use Rattle.pd_tools.specs.Ending.{PutsLine};
 ghost use Rattle.pd_tools.specs.Query.{IsUnput, query_line, query_status, stop_as};
-ghost use Rattle.pd_tools.specs.Work.{IsFinished, IsStopped, AnswersTerms};
+ghost use Rattle.pd_tools.specs.Task.{IsFinished, IsStopped, AnswersTerms};
 
 use crate::check::read_report;
-use crate::stop::Stop;
+use crate::ending::Stop;
+use pd_answers::Asked;
 use pd_dumps::{TextOfCache, TextOfEra, WrittenSince};
 use pd_image::{Device, Sink};
 use pd_kept::KeptOfPool;
@@ -24,7 +25,6 @@ use pd_lines::print_report;
 use pd_pool_dumps::{TextOfPool, TextOfShape};
 use pd_query::{Query, QueryFault};
 use pd_uses::{DeviceList, ReverseMap};
-use pd_words::Asked;
 use std::alloc::Global;
 
 /// Checks the image at the path up to the stage of what is asked, and puts the text that answers to the file, or to the
@@ -41,7 +41,7 @@ pub fn run_query<K: Sink, E: Sink, A: Device>(
     requires out { (K.state out.old).access ≡ 0 }
     requires notes { (E.state notes.old).access ≡ 1 }
     requires input { (A.state input.old).access ≡ 0 }
-    ensures { (others : Objects) → AnswersTerms (terms_of_query (asked_as asked) (option_copied file.entry) image.now) (E.state notes.old)
+    ensures { (others : Objects) → AnswersTerms (terms_of_query asked (option_copied file.entry) image.now) (E.state notes.old)
         (record others { out = K.state out.old; input = A.state input.old })
         (record others { out = K.state out.new; notes = E.state notes.new; input = A.state input.new }) result }
 {
@@ -82,8 +82,9 @@ fn query_image<K: Sink, A: Device>(
     ensures { (others : Objects) (notes : SinkState) →
         let before = record others { out = K.state out.old; input = A.state input.old } in
         let after = record others { out = K.state out.new; notes = notes; input = A.state input.new } in
-        let terms = terms_of_query (asked_as asked) (option_copied file.entry) image.now in
-        MatchResult result (λ report. IsFinished terms before after (query_status report) (query_line report)) (IsStopped terms before after) }
+        let terms = terms_of_query asked (option_copied file.entry) image.now in
+        MatchResult result (λ report. IsFinished terms before after (query_status report) (query_line report))
+        (IsStopped terms before after) }
 {
     let report = read_report(alloc, asked.kind(), asked.stage(), image, false, input)?;
     if !report.is_empty() {
@@ -103,11 +104,13 @@ fn put_text<K: Sink, A: Device>(
 ) -> Result<(), Stop>
     requires out { (K.state out.old).access ≡ 0 }
     requires input { (A.state input.old).access ≡ 1 }
-    ensures text { PutsAnswer (asked_kind (asked_as asked)) (asked_stage (asked_as asked)) (asked_text (asked_as asked)) result (A.state input.old).held (K.state out.old).written (K.state out.new).written }
+    ensures text { PutsAnswer (asked_kind asked) (asked_stage asked) (asked_text asked) result
+        (A.state input.old).held (K.state out.old).written (K.state out.new).written }
     ensures kept { OnlyReads (A.state input.old) (A.state input.new) }
     ensures used { IsUsed (reading (unwrap_or (option_copied file.entry) [])) (K.state out.new).access (K.state out.new).path }
     ensures access { OnOk result ((K.state out.new).access ≡ 1) }
-    ensures stopped { IfErr result (IsUnput (A.state input.old).faults (A.state input.new).faults (K.state out.old).faults (K.state out.new).faults) }
+    ensures stopped { IfErr result
+        (IsUnput (A.state input.old).faults (A.state input.new).faults (K.state out.old).faults (K.state out.new).faults) }
 {
     match asked {
         Asked::Text(Kind::Thin) => put_answer(alloc, &TextOfPool, file, out, input),
@@ -133,11 +136,13 @@ fn put_answer<Q: Query, K: Sink, A: Device>(
 ) -> Result<(), Stop>
     requires out { (K.state out.old).access ≡ 0 }
     requires input { (A.state input.old).access ≡ 1 }
-    ensures text { PutsAnswer Q.kind Q.stage (Q.answer query.now) result (A.state input.old).held (K.state out.old).written (K.state out.new).written }
+    ensures text { PutsAnswer Q.kind Q.stage (Q.answer query.now) result
+        (A.state input.old).held (K.state out.old).written (K.state out.new).written }
     ensures kept { OnlyReads (A.state input.old) (A.state input.new) }
     ensures used { IsUsed (reading (unwrap_or (option_copied file.entry) [])) (K.state out.new).access (K.state out.new).path }
     ensures access { OnOk result ((K.state out.new).access ≡ 1) }
-    ensures stopped { IfErr result (IsUnput (A.state input.old).faults (A.state input.new).faults (K.state out.old).faults (K.state out.new).faults) }
+    ensures stopped { IfErr result
+        (IsUnput (A.state input.old).faults (A.state input.new).faults (K.state out.old).faults (K.state out.new).faults) }
 {
     let started = match query.start(alloc, input) {
         Ok(started) => started,

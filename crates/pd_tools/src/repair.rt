@@ -1,22 +1,20 @@
-//! A repair, from the path of an image to that of another.
+//! A repair, from the path of an image to that of another (`thin_repair`).
 
-ghost use Rattle.std.specs.Prelude.{◌≡◌, IfErr};
-ghost use Rattle.pd_kinds.specs.Faults.{faults_at};
-ghost use Rattle.pd_kinds.specs.Report.{report_of};
-ghost use Rattle.pd_kinds.specs.RuleSet.{has_rule};
+ghost use Rattle.std.specs.Prelude.{◌≡◌, IfErr, true};
+ghost use Rattle.pd_kinds.specs.Rule.{faults_at, report_of, has_rule};
+ghost use Rattle.pd_answers.specs.Repairs.{saved_of, kept_line};
 ghost use Rattle.pd_image.specs.Device.{IsAttached, IsWritable, KeepsPlace, OnlyReads};
-ghost use Rattle.pd_answers.specs.Repairs.{saved_of};
 ghost use Rattle.pd_repair.specs.Repaired.{CountsRepair, IsRepairedAs, NamesRules};
 ghost use Rattle.pd_tools.specs.Ending.{repair_ended};
-ghost use Rattle.pd_tools.specs.Saved.{saved_content};
+ghost use Rattle.pd_tools.specs.Restore.{saved_content};
+ghost use Rattle.pd_tools.specs.Given.{is_known};
 
-use crate::ending::{Ending, Outcome, no_room};
-use crate::opening::{DevicePath, Places};
-use crate::stop::Stop;
-use crate::task::Task;
+use crate::ending::{Ending, Outcome, Stop, no_room};
+use crate::task::{DevicePath, Places, Task};
 use pd_image::Device;
 use pd_kinds::{Report, Rules};
-use pd_repair::{RepairFault, repair_shared, repair_thin};
+use pd_lines::LineBuffer;
+use pd_repair::{KeptCache, RepairFault, repair_cache, repair_shared, repair_thin};
 use std::alloc::Global;
 
 /// Writes what can be saved of the pool in the image at one path to the image at another, with the leaves that its devices
@@ -63,11 +61,13 @@ fn repair_pool<A: Device, B: Device>(
 ) -> Result<(), RepairFault>
     requires attached { IsAttached (A.state input.old) }
     requires writable { IsWritable (B.state output.old) }
-    ensures repaired { IsRepairedAs (saved_content shared) (saved_of shared) result (A.state input.old) (B.state output.old) (B.state output.new) }
+    ensures repaired { IsRepairedAs (saved_content shared) (saved_of shared) result (A.state input.old) (B.state output.old)
+        (B.state output.new) }
     ensures named { IfErr result NamesRules }
     ensures input { OnlyReads (A.state input.old) (A.state input.new) }
     ensures place { KeepsPlace (B.state output.old) (B.state output.new) }
-    ensures causes { CountsRepair result (A.state input.old).faults (A.state input.new).faults (B.state output.old).faults (B.state output.new).faults }
+    ensures causes { CountsRepair result (A.state input.old).faults
+        (A.state input.new).faults (B.state output.old).faults (B.state output.new).faults }
 {
     if shared {
         repair_shared(alloc, input, output)
@@ -99,4 +99,61 @@ fn report_of_rules(rules: &Rules) -> Report
     let mut report = Report::new();
     report.add_rules(0, rules);
     report
+}
+
+// A repair of a cache, from the path of an image to that of another (`cache_repair`).
+
+/// Writes what can be saved of the cache in the image at one path to the image at another, in this version of its metadata or
+/// else in its own, and puts the line of what is kept. Where the superblock has faults, their report goes to `notes`.
+#[derive(Clone, Copy)]
+pub struct CacheRepair<'a> {
+    pub from: &'a str,
+    pub to: &'a str,
+    pub version: Option<u32>,
+    ghost known: { is_known version ≡ true },
+}
+
+impl Task for CacheRepair<'_> {
+    ghost use Rattle.pd_answers.specs.Repairs.{repair_cache};
+
+    ghost terms = { λ task. repair_cache task.version task.from.now task.to.now };
+
+    fn places(&self) -> Places<'_> {
+        Places {
+            input: DevicePath::Reading(self.from),
+            output: DevicePath::Writing(self.to),
+            third: DevicePath::Unused,
+        }
+    }
+
+    fn laws(&self) {}
+
+    fn work<A: Device, B: Device, C: Device>(
+        &self,
+        alloc: Global,
+        input: &mut A,
+        output: &mut B,
+        third: &mut C,
+    ) -> Result<Outcome, Stop> {
+        match repair_cache(alloc, input, output, self.version) {
+            Ok(kept) => Ok(Outcome::Line(kept_text(&kept))),
+            Err(fault) => ended_of(Err(fault)),
+        }
+    }
+}
+
+/// The line of what is kept of a cache.
+fn kept_text(kept: &KeptCache) -> LineBuffer
+    ensures { result ≡ kept_line kept.now.entries kept.now.blocks kept.now.dirty }
+{
+    let mut line = LineBuffer::new();
+    line.add(b"keeps ");
+    line.add_number(kept.entries);
+    line.add(b" of ");
+    line.add_number(u64::from(kept.blocks));
+    line.add(b" blocks, ");
+    line.add_number(kept.dirty);
+    line.add(b" dirty");
+    line.add(b"\n");
+    line
 }

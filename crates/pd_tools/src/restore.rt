@@ -1,29 +1,27 @@
-//! A restore, from the path of a text to an image.
+//! A restore, from the path of a text to an image (`thin_restore`, `cache_restore`, `era_restore`).
 
 ghost use Rattle.std.specs.Prelude.{◌≡◌, ℕ, List, OnOk, IfErr, MatchResult};
 ghost use Rattle.pd_kinds.specs.declared.kind.Kind.{Kind};
 ghost use Rattle.pd_kinds.specs.Objects.{DeviceState, SinkState, SourceState};
 ghost use Rattle.pd_kinds.specs.Crash.{IsSynced};
+ghost use Rattle.pd_answers.specs.Terms.{Objects};
+ghost use Rattle.pd_answers.specs.Restores.{restore};
 ghost use Rattle.pd_image.specs.Device.{IsWritable, KeepsPlace};
 ghost use Rattle.pd_image.specs.Source.{KeepsSource};
-ghost use Rattle.pd_answers.specs.Answer.{Objects};
-ghost use Rattle.pd_answers.specs.Restores.{restore};
 ghost use Rattle.pd_restoring.specs.Restored.{CountsRestore};
 ghost use Rattle.pd_words.specs.Words.{IsVersion};
 ghost use Rattle.pd_tools.specs.Ending.{ending_line, ending_status, restore_ended};
 ghost use Rattle.pd_tools.specs.Restore.{AreAttached, AreUnattached, IsRestoredAs, TextsHaveVerdicts};
-ghost use Rattle.pd_tools.specs.Work.{IsFinished, IsStopped, AnswersTerms};
+ghost use Rattle.pd_tools.specs.Task.{IsFinished, IsStopped, AnswersTerms};
 
-use crate::ending::{Ending, no_room, put_ending};
-use crate::stop::Stop;
+use crate::ending::{Ending, Stop, no_room, put_ending};
+use pd_grammar::{cache_text_has_one_verdict, era_text_has_one_verdict};
 use pd_image::{Device, Sink, Source};
 use pd_kinds::Kind;
+use pd_laid::pool_text_has_one_verdict;
 use pd_restore::restore_thin;
-use pd_restore_cache::restore_cache;
-use pd_restore_era::restore_era;
+use pd_restore_kinds::{restore_cache, restore_era};
 use pd_restoring::RestoreFault;
-use pd_shapes::pool_text_has_one_verdict;
-use pd_spells::{cache_text_has_one_verdict, era_text_has_one_verdict};
 use std::alloc::Global;
 
 /// Restores an image of this kind, and of a cache's version, from the text at a path.
@@ -93,8 +91,10 @@ fn attach_both<S: Source, B: Device>(
 ) -> Result<(), Stop>
     requires source { (S.state source.old).access ≡ 0 }
     requires output { (B.state output.old).access ≡ 0 }
-    ensures attached { OnOk result (AreAttached text.now image.now (S.state source.old) (S.state source.new) (B.state output.old) (B.state output.new)) }
-    ensures unattached { IfErr result (AreUnattached text.now image.now (S.state source.old) (S.state source.new) (B.state output.old) (B.state output.new)) }
+    ensures attached { OnOk result (AreAttached text.now image.now (S.state source.old) (S.state source.new) (B.state output.old)
+        (B.state output.new)) }
+    ensures unattached { IfErr result (AreUnattached text.now image.now (S.state source.old) (S.state source.new) (B.state output.old)
+        (B.state output.new)) }
 {
     source.attach(text).map_err(|_| Stop::Stream)?;
     output.attach(image, true).map_err(|_| Stop::Device)
@@ -112,7 +112,8 @@ fn restore_attached<S: Source, B: Device>(
     requires source { (S.state source.old).access ≡ 1 }
     requires output { IsWritable (B.state output.old) }
     ensures { (file path : List ℕ) (before_source : SourceState) (before_output : DeviceState) (others : Objects) (notes : SinkState) →
-        IsSynced before_output → before_output.faults ≡ 0 → AreAttached file path before_source (S.state source.old) before_output (B.state output.old) →
+        IsSynced before_output → before_output.faults ≡ 0
+        → AreAttached file path before_source (S.state source.old) before_output (B.state output.old) →
         let terms = restore kind version file path in
         let before = record others { source = before_source; output = before_output } in
         let after = record others { source = S.state source.new; notes = notes; output = B.state output.new } in
@@ -149,10 +150,12 @@ fn restore_kind<S: Source, B: Device>(
     requires version { IsVersion version }
     requires source { (S.state source.old).access ≡ 1 }
     requires output { IsWritable (B.state output.old) }
-    ensures restored { IsRestoredAs kind version result (S.state source.old) (S.state source.new) (B.state output.old) (B.state output.new) }
+    ensures restored { IsRestoredAs kind version result (S.state source.old) (S.state source.new) (B.state output.old)
+        (B.state output.new) }
     ensures place { KeepsPlace (B.state output.old) (B.state output.new) }
     ensures source { KeepsSource (S.state source.old) (S.state source.new) }
-    ensures causes { CountsRestore result (S.state source.old).faults (S.state source.new).faults (B.state output.old).faults (B.state output.new).faults }
+    ensures causes { CountsRestore result (S.state source.old).faults
+        (S.state source.new).faults (B.state output.old).faults (B.state output.new).faults }
 {
     match kind {
         Kind::Thin => restore_thin(alloc, source, output),

@@ -1,32 +1,31 @@
 //! A repair without a superblock, from the paths of two images and the numbers that are given to the line of the roots.
+//! Serves `thin_repair`.
 
 ghost use Rattle.std.specs.Prelude.{◌≡◌, ◌≤◌, ◌^◌, ℕ, List, IfSome, min};
 ghost use Rattle.pd_kinds.specs.declared.limits.TheConstants.{MAX_META_BLOCKS};
 ghost use Rattle.pd_kinds.specs.Objects.{DeviceState, SinkState};
-ghost use Rattle.pd_image.specs.Device.{IsAttached, IsWritable, KeepsPlace, OnlyReads};
 ghost use Rattle.pd_laid.specs.FoundRoots.{AreBest, lost_graph};
+ghost use Rattle.pd_answers.specs.Terms.{AreFresh, Objects};
+ghost use Rattle.pd_answers.specs.Searches.{roots_line};
+ghost use Rattle.pd_image.specs.Device.{IsAttached, IsWritable, KeepsPlace, OnlyReads};
 ghost use Rattle.pd_repair.specs.Repaired.{CountsRepair, HasSuper, IsRepairedFromAs};
-ghost use Rattle.pd_scan.specs.Roots.{AreInside, roots_of};
+ghost use Rattle.pd_scan.specs.Pairs.{AreInside, roots_of};
 ghost use Rattle.pd_words.specs.Words.{IsPoolSize};
-ghost use Rattle.pd_answers.specs.Answer.{AreFresh, Objects};
-ghost use Rattle.pd_answers.specs.SearchLines.{roots_line};
 ghost use Rattle.pd_tools.specs.Opened.{AreOpened, Devices, devices};
-ghost use Rattle.pd_tools.specs.Saved.{saved_content, seen_by};
-ghost use Rattle.pd_tools.specs.Search.{terms_of_search};
+ghost use Rattle.pd_tools.specs.Restore.{saved_content, seen_by};
+ghost use Rattle.pd_tools.specs.Given.{terms_of_search};
 ghost use Rattle.pd_tools.specs.Task.{Works};
 
-use crate::ending::{Ending, Outcome};
-use crate::opening::{DevicePath, Places};
+use crate::ending::{Ending, Outcome, Stop};
 use crate::repair::ended_of;
-use crate::stop::Stop;
-use crate::task::Task;
+use crate::task::{DevicePath, Places, Task};
+use pd_answers::GivenSuper;
 use pd_image::Device;
 use pd_kept::usable_blocks;
 use pd_kinds::{CheckFault, ThinSuper};
 use pd_lines::LineBuffer;
 use pd_repair::{RepairFault, repair_seen, repair_seen_shared};
 use pd_scan::{Roots, find_roots, found_pools_are_saved_whole, lost_super};
-use pd_words::GivenSuper;
 use std::alloc::Global;
 
 /// Writes the pool of the best roots that are found in the image at one path to the image at another, with the numbers
@@ -41,7 +40,7 @@ pub struct Search<'a> {
 }
 
 impl Task for Search<'_> {
-    ghost use Rattle.pd_tools.specs.Search.{terms_of_search};
+    ghost use Rattle.pd_tools.specs.Given.{terms_of_search};
 
     ghost terms = { λ task. terms_of_search task.shared task.given task.from.now task.to.now };
 
@@ -97,7 +96,8 @@ fn write_found<A: Device, B: Device>(
         let before = record others { input = first.input; output = first.output; third = first.third } in
         let after = record others { notes = notes; input = A.state input.new; output = B.state output.new; third = third } in
         let terms = terms_of_search shared given.now from to in
-        AreFresh before → AreOpened terms.uses first (devices (A.state input.old) (B.state output.old) third) → Works terms before after result }
+        AreFresh before → AreOpened terms.uses first (devices (A.state input.old) (B.state output.old) third)
+        → Works terms before after result }
 {
     found_pools_are_saved_whole();
     let meta_blocks = usable_blocks(input);
@@ -129,11 +129,13 @@ pub(crate) fn repair_lost<A: Device, B: Device>(
     requires there { lost.now.meta_map.blocks ≤ (A.state input.old).blocks }
     requires few { lost.now.meta_map.blocks ≤ 4161600 }
     requires data { lost.now.data_map.blocks ≤ 2 ^ 40 }
-    ensures repaired { IsRepairedFromAs (saved_content shared) (seen_by shared time) lost.now result (A.state input.old) (B.state output.old) (B.state output.new) }
+    ensures repaired { IsRepairedFromAs (saved_content shared)
+        (seen_by shared time) lost.now result (A.state input.old) (B.state output.old) (B.state output.new) }
     ensures sound { HasSuper result }
     ensures input { OnlyReads (A.state input.old) (A.state input.new) }
     ensures place { KeepsPlace (B.state output.old) (B.state output.new) }
-    ensures causes { CountsRepair result (A.state input.old).faults (A.state input.new).faults (B.state output.old).faults (B.state output.new).faults }
+    ensures causes { CountsRepair result (A.state input.old).faults
+        (A.state input.new).faults (B.state output.old).faults (B.state output.new).faults }
 {
     if shared {
         repair_seen_shared(alloc, input, output, lost, time)

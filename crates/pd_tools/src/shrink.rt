@@ -1,14 +1,13 @@
-//! A shrink, from the paths of its three devices to the line that says how many data blocks were moved.
+//! A shrink, from the paths of its three devices to the line that says how many data blocks were moved (`thin_shrink`).
 
 ghost use Rattle.std.specs.Prelude.{◌≡◌, [], None, Bool, List, ℕ, IfOk, IfSome, length};
 ghost use Rattle.pd_kinds.specs.declared.kind.Kind.TheVariants.{Thin};
 ghost use Rattle.pd_kinds.specs.declared.kind.Stage.TheVariants.{Counts};
 ghost use Rattle.pd_kinds.specs.Objects.{DeviceState, SinkState};
 ghost use Rattle.pd_kinds.specs.Stages.{faults};
+ghost use Rattle.pd_answers.specs.Terms.{AreFresh, Objects};
+ghost use Rattle.pd_answers.specs.Shrinks.{sources, ShrinkGround, lack_of, moved_line, pool_before, shrink};
 ghost use Rattle.pd_image.specs.Device.{IsAttached, IsWritable, KeepsPlace, OnlyReads};
-ghost use Rattle.pd_answers.specs.Answer.{AreFresh, Objects};
-ghost use Rattle.pd_answers.specs.MovedPool.{sources};
-ghost use Rattle.pd_answers.specs.Shrinks.{ShrinkGround, lack_of, moved_line, pool_before, shrink};
 ghost use Rattle.pd_shrink.specs.Failing.{CountsPlanning};
 ghost use Rattle.pd_shrink.specs.Planned.{IsPlanOf, Plans};
 ghost use Rattle.pd_tools.specs.Ending.{shrink_ended};
@@ -17,10 +16,8 @@ ghost use Rattle.pd_tools.specs.Shrink.{IsWritten};
 ghost use Rattle.pd_tools.specs.Task.{Works};
 
 use crate::check::check_attached;
-use crate::ending::{Ending, Outcome};
-use crate::opening::{DevicePath, Places};
-use crate::stop::Stop;
-use crate::task::Task;
+use crate::ending::{Ending, Outcome, Stop};
+use crate::task::{DevicePath, Places, Task};
 use pd_image::Device;
 use pd_kinds::{Kind, Stage};
 use pd_lines::LineBuffer;
@@ -88,7 +85,8 @@ fn shrink_sound<A: Device, B: Device, C: Device>(
         let before = record others { input = first.input; output = first.output; third = first.third } in
         let after = record others { notes = notes; input = A.state input.new; output = B.state output.new; third = C.state third.new } in
         let terms = shrink shared from to pool blocks in
-        AreFresh before → AreOpened terms.uses first (devices (A.state input.old) (B.state output.old) (C.state third.old)) → Works terms before after result }
+        AreFresh before → AreOpened terms.uses first (devices (A.state input.old) (B.state output.old) (C.state third.old))
+        → Works terms before after result }
 {
     let plan = match plan_shrink(alloc, shared, blocks, input, output, third) {
         Ok(plan) => plan,
@@ -147,8 +145,10 @@ fn move_and_write<B: Device, C: Device>(
     requires third { IsWritable (C.state third.old) }
     requires output_blocks { (B.state output.old).blocks ≡ plan.output_blocks }
     requires pool_blocks { (C.state third.old).blocks ≡ plan.pool_blocks }
-    ensures count { IfOk result (λ n. (shared : Bool) (basis : ShrinkGround shared) → IsPlanOf basis plan → lack_of basis ≡ None → n ≡ length (sources (pool_before basis) basis.end)) }
-    ensures written { (meta : DeviceState) → IsWritten plan result (devices meta (B.state output.old) (C.state third.old)) (devices meta (B.state output.new) (C.state third.new)) }
+    ensures count { IfOk result (λ n. (shared : Bool) (basis : ShrinkGround shared)
+        → IsPlanOf basis plan → lack_of basis ≡ None → n ≡ length (sources (pool_before basis) basis.end)) }
+    ensures written { (meta : DeviceState) → IsWritten plan result (devices meta (B.state output.old) (C.state third.old))
+        (devices meta (B.state output.new) (C.state third.new)) }
 {
     let count = match plan.copy(third) {
         Ok(count) => count,

@@ -1,18 +1,13 @@
 //! The shell of what writes, or looks first: a task attaches its devices, does its work over them, and ends with a line or a text.
 
-ghost use Rattle.std.specs.Prelude.{◌≡◌, IsTrue};
-ghost use Rattle.pd_kinds.specs.Objects.{SinkState};
-ghost use Rattle.pd_answers.specs.Answer.{AreFresh, IsOpen, Objects};
-ghost use Rattle.pd_answers.specs.Terms.{Terms, is_possible};
-ghost use Rattle.pd_tools.specs.Opened.{AreOpened, Devices, KeepsAs, devices, uses_at};
-ghost use Rattle.pd_tools.specs.Task.{AreAlone, Ends, IsAtRest, LosesLine, PutsOutcome, Works};
-ghost use Rattle.pd_tools.specs.Work.{AnswersTerms};
+ghost use Rattle.std.specs.Prelude.{◌≡◌, IsTrue, OnOk, MatchResult};
+ghost use Rattle.pd_kinds.specs.Objects.{SinkState, CountsFault};
+ghost use Rattle.pd_answers.specs.Terms.{AreFresh, IsOpen, Objects, Terms, is_possible, Use};
+ghost use Rattle.pd_tools.specs.Opened.{AreOpened, Devices, KeepsAs, devices, uses_at, AreUnopened, AsksAs, OpensAs, use_of};
+ghost use Rattle.pd_tools.specs.Task.{AreAlone, Ends, IsAtRest, LosesLine, PutsOutcome, Works, AnswersTerms};
 
-use crate::ending::{Ending, Outcome, put_ending};
-use crate::notes::{put_last_line, put_last_text};
-use crate::opening::{Places, open_all};
-use crate::stop::Stop;
-use pd_image::{Device, Sink};
+use crate::ending::{Ending, Outcome, Stop, put_ending, put_last_line, put_last_text};
+use pd_image::{Device, Failed, Sink};
 use std::alloc::Global;
 
 /// A request that does its work before it puts anything, as it is asked.
@@ -26,7 +21,8 @@ pub(crate) trait Task {
 
     /// What holds of its terms: before a device is written, and where its line is lost.
     fn laws(&self)
-        ensures rests { (before after : Objects) → AreFresh before → AreAlone before after → after.input.reads ≡ before.input.reads → IsAtRest (terms self.now) before after }
+        ensures rests { (before after : Objects) → AreFresh before → AreAlone before after
+            → after.input.reads ≡ before.input.reads → IsAtRest (terms self.now) before after }
         ensures loses { LosesLine (terms self.now) }
         ensures reads { (before after : Objects) → (terms self.now).reads before after }
         ensures can_fail { IsTrue (is_possible (terms self.now) 5) };
@@ -47,7 +43,12 @@ pub(crate) trait Task {
         ensures third { KeepsAs (terms self.now).uses.third (C.state third.old) (C.state third.new) }
         ensures works { (others : Objects) (notes : SinkState) (first : Devices) →
             let before = record others { input = first.input; output = first.output; third = first.third } in
-            let after = record others { notes = notes; input = A.state input.new; output = B.state output.new; third = C.state third.new } in
+            let after = record others {
+              notes = notes;
+              input = A.state input.new;
+              output = B.state output.new;
+              third = C.state third.new;
+            } in
             AreFresh before → AreOpened (terms self.now).uses first (devices (A.state input.old) (B.state output.old) (C.state third.old)) →
             (A.state input.old).reads ≡ first.input.reads → Works (terms self.now) before after result };
 }
@@ -70,7 +71,13 @@ pub(crate) fn run_task<T: Task, K: Sink, E: Sink, A: Device, B: Device, C: Devic
     requires third { (C.state third.old).access ≡ 0 }
     ensures { (others : Objects) → AnswersTerms (T.terms task.now) (E.state notes.old)
         (record others { out = K.state out.old; input = A.state input.old; output = B.state output.old; third = C.state third.old })
-        (record others { out = K.state out.new; notes = E.state notes.new; input = A.state input.new; output = B.state output.new; third = C.state third.new }) result }
+        (record others {
+          out = K.state out.new;
+          notes = E.state notes.new;
+          input = A.state input.new;
+          output = B.state output.new;
+          third = C.state third.new;
+        }) result }
 {
     task.laws();
     let ended = attach_and_work(alloc, task, out, input, output, third);
@@ -91,8 +98,20 @@ fn attach_and_work<T: Task, K: Sink, A: Device, B: Device, C: Device>(
     requires output { (B.state output.old).access ≡ 0 }
     requires third { (C.state third.old).access ≡ 0 }
     ensures { (others : Objects) (notes : SinkState) →
-        let before = record others { out = K.state out.old; input = A.state input.old; output = B.state output.old; third = C.state third.old } in
-        let after = record others { out = K.state out.new; notes = notes; input = A.state input.new; output = B.state output.new; third = C.state third.new } in
+        let before = record others {
+          out = K.state
+              out.old;
+          input = A.state input.old;
+          output = B.state output.old;
+          third = C.state third.old;
+        } in
+        let after = record others {
+          out = K.state out.new;
+          notes = notes;
+          input = A.state input.new;
+          output = B.state output.new;
+          third = C.state third.new;
+        } in
         AreFresh before → Ends (T.terms task.now) before after result }
 {
     task.laws();
@@ -117,5 +136,59 @@ fn put_outcome<K: Sink>(worked: Result<Outcome, Stop>, out: &mut K) -> Result<En
             Err(_) => Err(Stop::Stream),
         },
         Outcome::Ended(ending) => Ok(ending),
+    }
+}
+
+// Attaching the devices of a request, one after another.
+
+/// How a request names a device: not at all, or by its path, for reading, or for writing too.
+#[derive(Clone, Copy)]
+pub(crate) enum DevicePath<'a> {
+    Unused,
+    Reading(&'a str),
+    Writing(&'a str),
+}
+
+/// How a request names its devices.
+#[derive(Clone, Copy)]
+pub(crate) struct Places<'a> {
+    pub(crate) input: DevicePath<'a>,
+    pub(crate) output: DevicePath<'a>,
+    pub(crate) third: DevicePath<'a>,
+}
+
+/// Attaches the devices that are named, in their order.
+pub(crate) fn open_all<A: Device, B: Device, C: Device>(
+    places: Places<'_>,
+    input: &mut A,
+    output: &mut B,
+    third: &mut C,
+) -> Result<(), Failed>
+    requires input { (A.state input.old).access ≡ 0 }
+    requires output { (B.state output.old).access ≡ 0 }
+    requires third { (C.state third.old).access ≡ 0 }
+    ensures opened { (out : Use) →
+        let old = devices (A.state input.old) (B.state output.old) (C.state third.old) in
+        let new = devices (A.state input.new) (B.state output.new) (C.state third.new) in
+        MatchResult result (λ _. AreOpened (uses_at out places.entry) old new) (λ _. AreUnopened (uses_at out places.entry) old new) }
+    ensures unread { (A.state input.new).reads ≡ (A.state input.old).reads }
+{
+    open(places.input, input)?;
+    open(places.output, output)?;
+    open(places.third, third)
+}
+
+/// Attaches a device where it is named.
+fn open<D: Device>(place: DevicePath<'_>, device: &mut D) -> Result<(), Failed>
+    requires { (D.state device.old).access ≡ 0 }
+    ensures opened { OnOk result (OpensAs (use_of place.entry) (D.state device.old) (D.state device.new)) }
+    ensures asked { AsksAs (use_of place.entry) (D.state device.old) (D.state device.new) }
+    ensures unread { (D.state device.new).reads ≡ (D.state device.old).reads }
+    ensures faults { CountsFault result (D.state device.old).faults (D.state device.new).faults }
+{
+    match place {
+        DevicePath::Unused => Ok(()),
+        DevicePath::Reading(path) => device.attach(path, false),
+        DevicePath::Writing(path) => device.attach(path, true),
     }
 }

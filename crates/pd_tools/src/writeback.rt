@@ -1,13 +1,14 @@
 //! A writeback, from the paths of its three devices to the line that says how many blocks were copied.
+//! Serves `cache_writeback`.
 
 ghost use Rattle.std.specs.Prelude.{◌≡◌, [], List, ℕ, IfOk, IfSome, length};
 ghost use Rattle.pd_kinds.specs.declared.kind.Kind.TheVariants.{Cache};
 ghost use Rattle.pd_kinds.specs.declared.kind.Stage.TheVariants.{Whole};
 ghost use Rattle.pd_kinds.specs.Objects.{SinkState};
 ghost use Rattle.pd_kinds.specs.Stages.{faults};
-ghost use Rattle.pd_image.specs.Device.{IsWritable, KeepsPlace, OnlyReads};
-ghost use Rattle.pd_answers.specs.Answer.{AreFresh, Objects};
+ghost use Rattle.pd_answers.specs.Terms.{AreFresh, Objects};
 ghost use Rattle.pd_answers.specs.Writebacks.{copied_line, writeback};
+ghost use Rattle.pd_image.specs.Device.{IsWritable, KeepsPlace, OnlyReads};
 ghost use Rattle.pd_writeback.specs.Plan.{plan_hot};
 ghost use Rattle.pd_tools.specs.Ending.{plan_ended};
 ghost use Rattle.pd_tools.specs.Opened.{AreOpened, Devices, devices};
@@ -15,10 +16,8 @@ ghost use Rattle.pd_tools.specs.Task.{Works};
 ghost use Rattle.pd_tools.specs.Writeback.{IsWritten};
 
 use crate::check::check_attached;
-use crate::ending::{Ending, Outcome};
-use crate::opening::{DevicePath, Places};
-use crate::stop::Stop;
-use crate::task::Task;
+use crate::ending::{Ending, Outcome, Stop};
+use crate::task::{DevicePath, Places, Task};
 use pd_image::{Device, Failed};
 use pd_kinds::{Kind, Stage};
 use pd_lines::LineBuffer;
@@ -82,7 +81,8 @@ fn write_sound<A: Device, B: Device, C: Device>(
         let before = record others { input = first.input; output = first.output; third = first.third } in
         let after = record others { notes = notes; input = A.state input.new; output = B.state output.new; third = C.state third.new } in
         let terms = writeback metadata fast origin in
-        AreFresh before → AreOpened terms.uses first (devices (A.state input.old) (B.state output.old) (C.state third.old)) → Works terms before after result }
+        AreFresh before → AreOpened terms.uses first (devices (A.state input.old) (B.state output.old) (C.state third.old))
+        → Works terms before after result }
 {
     let plan = match Plan::make(alloc, input, output, third) {
         Ok(plan) => plan,
@@ -122,7 +122,8 @@ fn copy_and_mark<A: Device, B: Device, C: Device>(
     requires origin_blocks { (B.state output.old).blocks ≡ plan.now.origin_blocks }
     requires fast_blocks { (C.state third.old).blocks ≡ plan.now.fast_blocks }
     ensures count { IfOk result (λ count. count ≡ length (plan_hot plan.now)) }
-    ensures written { IsWritten plan.now result (devices (A.state input.old) (B.state output.old) (C.state third.old)) (devices (A.state input.new) (B.state output.new) (C.state third.new)) }
+    ensures written { IsWritten plan.now result (devices (A.state input.old) (B.state output.old) (C.state third.old))
+        (devices (A.state input.new) (B.state output.new) (C.state third.new)) }
 {
     match plan.copy(output, third) {
         Ok(count) => match plan.mark(input) {

@@ -1,15 +1,22 @@
 -- What a loop over steps keeps: what is left, with the reads that were made.
-use Rattle.std.proofs.Common.{◌≡◌, ℕ, zero, suc, ◌+◌, ◌-◌, ◌≤◌, List, [], ◌∷◌, ◌++◌, Option, Some, None, IfSome, length, refl, ap, ◌∙◌, arith, length-append}
+use Rattle.std.proofs.Common.{◌≡◌, ℕ, zero, suc, ◌+◌, ◌-◌, ◌≤◌, List, [], ◌∷◌, ◌++◌, Option, Some, None, IfSome, length, refl, ap, ◌∙◌, arith, length-append, ◌*◌, ◌<◌, Bool, true, false, cond, not, ◌||◌, nat_eq, nat_lt, is_some}
+use Rattle.std.proofs.lemmas.Bool.Decides.{nat_tests}
 use Rattle.pd_kinds.specs.Field.{le}
 use Rattle.pd_kinds.specs.Node.{entry_count}
 use Rattle.pd_kinds.specs.Graph.{block_at}
+use Rattle.pd_kinds.specs.Array.{word_at, word_count, is_array_shape_bad, array_entries, array_max, array_value_size}
+use Rattle.pd_value.specs.declared.thin.Root.{Root}
+use Rattle.pd_array.specs.declared.array.Word.{Word}
+use Rattle.pd_array.specs.declared.array.Word.TheVariants.{Four, Eight}
+use Rattle.pd_array.specs.Word.{size_of}
 use Rattle.pd_tree.specs.declared.stack.Stack.{Stack}
 use Rattle.pd_tree.specs.Below.{items_from, kids_from, items_below, nodes_below}
-use Rattle.pd_tree.specs.declared.place.NodePlace.{NodePlace}
-use Rattle.pd_tree.specs.Cursor.{root_left}
-use Rattle.pd_tree.specs.Stack.{stacked, items_at, stack_items, stack_nodes}
-use Rattle.pd_tree.specs.Steps.{GoesDown}
-use Rattle.pd_tree.proofs.BelowLemmas.{items_below_is, nodes_below_is, each_none}
+use Rattle.pd_tree.specs.declared.stack.NodePlace.{NodePlace}
+use Rattle.pd_tree.specs.Cursor.{root_left, root_of, cursor_items, cursor_nodes, words_from, words_of_items, words_left, TakesWord, TakesNoWord, TakesWords, array_words, array_reads}
+use Rattle.pd_tree.specs.Stack.{stacked, items_at, stack_items, stack_nodes, GoesDown}
+use Rattle.pd_tree.proofs.StackLemmas.{items_below_is, nodes_below_is, each_none}
+use Rattle.pd_tree.specs.declared.array_cursor.Words.{Words}
+use Rattle.pd_tree.specs.declared.array_cursor.ArrayCursor.{ArrayCursor}
 
 -- what holds of each, holds of both
 pub if_both : {X : Type 0} {P Q R : X → Type 0} → (o : Option X) → ((x : X) → o ≡ Some x → P x → Q x → R x) → IfSome o P → IfSome o Q → IfSome o R
@@ -85,7 +92,84 @@ root_reads size image root b reads more rest is one =
     let some = nodes_some size image 63 b in
     rw (is, length-append (nodes_below size image 63 b) rest) (omega arith)
 
--- what holds of anything
-pub if_any : {X : Type 0} {P : X → Type 0} → (o : Option X) → ((x : X) → P x) → IfSome o P
-if_any None all = tt
-if_any (Some x) all = all x
+-- The words of a block, one after the other, and of one block after the other.
+
+few_plain : (size wanted max most entries : ℕ) → (not (nat_eq size wanted) || (not (nat_eq max most) || nat_lt max entries)) ≡ false → most ≤ 4072 → entries ≤ 4072
+few_plain size wanted max most entries sound few = grind (arith, nat_tests)
+
+few_if : (bad : Bool) (count : ℕ) → (bad ≡ false → count ≤ 4072) → cond bad 0 count ≤ 4072
+few_if true count few = omega arith
+few_if false count few = few refl
+
+-- a block has at most 4072 words
+pub few_words : (word : Word) (block : List ℕ) → word_count (size_of word) block ≤ 4072
+unfolding word_count is_array_shape_bad
+few_words Four block = few_if (is_array_shape_bad 4 block) (array_entries block) (λ sound. few_plain (array_value_size block) 4 (array_max block) 1018 (array_entries block) sound (omega arith))
+few_words Eight block = few_if (is_array_shape_bad 8 block) (array_entries block) (λ sound. few_plain (array_value_size block) 8 (array_max block) 509 (array_entries block) sound (omega arith))
+
+-- past the last word there is none
+pub words_none : (size : ℕ) (block : List ℕ) (next : ℕ) → word_count size block ≤ next → words_from size block next ≡ []
+unfolding words_from
+words_none size block next most =
+    let none : word_count size block - next ≡ 0 = omega arith in
+    rw none refl
+
+-- a block without bytes has no words
+no_words : (word : Word) → words_from (size_of word) [] 0 ≡ []
+unfolding words_from word_count is_array_shape_bad le
+no_words Four = refl
+no_words Eight = refl
+
+-- nor has one outside of the device
+pub words_outside : (word : Word) (image : List (List ℕ)) (b : ℕ) → length image ≤ b → words_from (size_of word) (block_at image b) 0 ≡ []
+words_outside word image b outside = rw (none_outside image b outside) (no_words word)
+
+-- a word is taken
+pub takes_word : (size : ℕ) (old : Words) → old.next < word_count size old.block.0 → TakesWord size (word_at size old.block.0 old.next) old (record old { next = old.next + 1 })
+unfolding words_from
+takes_word size old within =
+    let less : word_count size old.block.0 - old.next ≡ suc (word_count size old.block.0 - (old.next + 1)) = omega arith in
+    record { words = rw less refl; number = less }
+
+-- what an array's cursor keeps
+pub record ArrayTold (image : List (List ℕ)) (reads : ℕ) (start : ArrayCursor) (made : ℕ) (now : ArrayCursor) : Type 0 where
+  pub words : array_words image start ≡ array_words image now
+  pub reads_left : made + array_reads image now ≤ reads + array_reads image start
+
+-- the next entry's block takes the place of one of which no word is left
+pub next_block : (image : List (List ℕ)) (reads made more most : ℕ) (start old new : ArrayCursor) (key : ℕ) (root : Root) → ArrayTold image reads start made old
+    → words_left (size_of old.word) old.words ≡ [] → new.word ≡ old.word
+    → cursor_items 8 root_of image old.entries ≡ (key, root) ∷ cursor_items 8 root_of image new.entries
+    → words_left (size_of old.word) new.words ≡ words_from (size_of old.word) (block_at image root.0) 0
+    → more + length (cursor_nodes 8 image new.entries) ≤ made + length (cursor_nodes 8 image old.entries) → most ≤ more + 1
+    → ArrayTold image reads start most new
+unfolding words_of_items
+next_block image reads made more most start old new key root told none same items words nodes one =
+    let before = told.reads_left in
+    let less = ap length items in
+    record {
+      words = told.words ∙ (rw (same, none, items, words) refl);
+      reads_left = omega arith;
+    }
+
+-- no word was left
+pub no_word_taken : (size : ℕ) (taken : Option ℕ) (old new : Words) → false ≡ is_some taken → TakesWords size taken old new → TakesNoWord size old new
+no_word_taken size None old new none takes = takes
+no_word_taken size (Some word) old new none takes = cc
+
+-- where each of four facts holds of the value, if there is one
+pub if_four : {X : Type 0} {P Q R S T : X → Type 0} → (o : Option X) → ((x : X) → P x → Q x → R x → S x → T x) → IfSome o P → IfSome o Q → IfSome o R → IfSome o S → IfSome o T
+if_four None join p q r s = tt
+if_four (Some x) join p q r s = join x p q r s
+
+-- the number falls with the next block
+pub falls : (before after words left : ℕ) → after < before → left ≤ 4072 → 4096 * after + left < 4096 * before + words
+falls before after words left less few = omega arith
+
+-- in the end nothing is left
+pub array_ends : (image : List (List ℕ)) (start old new : ArrayCursor) → array_words image start ≡ array_words image old → words_left (size_of old.word) old.words ≡ []
+    → new.words ≡ old.words → new.word ≡ old.word → (cursor_items 8 root_of image old.entries ≡ []) × (cursor_items 8 root_of image new.entries ≡ [])
+    → (array_words image start ≡ []) × (array_words image new ≡ [])
+unfolding words_of_items
+array_ends image start old new told none words same ends =
+    (told ∙ (rw (none, ends.0) refl), rw (same, words, none, ends.1) refl)

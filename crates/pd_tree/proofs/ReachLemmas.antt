@@ -2,12 +2,11 @@
 use Rattle.std.proofs.Common.{◌≡◌, ◌↔◌, inl, inr, ℕ, ◌*◌, ◌<◌, true, nat_eq, List, [], ◌∷◌, map, refl, arith, eq-eqb}
 use Rattle.std.specs.List.{list_any, AllByRecursion}
 use Rattle.std.proofs.lemmas.Bool.{or_cases, or_right, eqb-true}
-use Rattle.pd_kinds.specs.Edge.{Edge}
-use Rattle.pd_kinds.specs.Graph.{Graph, block_at, pair, block_of, role_of, edges_of, next, is_reached}
+use Rattle.pd_kinds.specs.Graph.{Edge, Graph, block_at, pair, block_of, role_of, edges_of, next, is_reached}
 use Rattle.pd_kinds.specs.Lawful.{IsWithin, IsLawful}
 use Rattle.pd_kinds.specs.Paths.{IsOnPath, start, edge}
 use Rattle.pd_kinds.specs.Stages.{IsReached}
-use Rattle.pd_laws.proofs.AllLemmas.{all_from_two}
+use Rattle.pd_kinds.proofs.ListLemmas.{all_from_two}
 
 -- what holds of each edge's pair holds of a pair that the edges lead to
 led_to : (P : ℕ → Type 0) (Q : Edge → Type 0) (c : ℕ) (edges : List Edge) → ((e : Edge) → Q e → P (pair e.block e.role)) → AllByRecursion Q edges

@@ -2,17 +2,11 @@
 use Rattle.std.proofs.Common.{◌≡◌, ℕ, suc, ◌+◌, ◌-◌, ◌<◌, ◌≤◌, true, false, List, [], ◌∷◌, ◌++◌, length, set, refl, arith, map, append_assoc}
 use Rattle.std.proofs.lemmas.List.{get_or-set_same}
 use Rattle.pd_kinds.specs.Node.{entry_count, is_inner_node, child_at, key_at, value_at}
-use Rattle.pd_tree.specs.declared.place.NodePlace.{NodePlace}
+use Rattle.pd_tree.specs.declared.stack.NodePlace.{NodePlace}
 use Rattle.pd_tree.specs.declared.stack.Stack.{Stack}
-use Rattle.pd_tree.specs.Below.{each_below, items_below, nodes_below}
-use Rattle.pd_tree.specs.Frontier.{entry, left_of_item, left_at}
-use Rattle.pd_tree.specs.NodePlace.{after, no_place, place_items, place_kids, place_left}
-use Rattle.pd_tree.specs.Stack.{last_place, stacked, items_at, nodes_at, child_weight, weigh}
-use Rattle.pd_tree.specs.Steps.{TakesLast, ended, deep, Passes, GoesDown, GivesEntry}
-use Rattle.pd_tree.proofs.BelowLemmas.{each_first, each_none, each_deep}
-use Rattle.pd_tree.proofs.FrontierLemmas.{child_alone}
-use Rattle.pd_tree.proofs.PlaceLemmas.{one_less, first_kid, first_item}
-use Rattle.pd_tree.proofs.StackLemmas.{stacked_is, stacked_set, weigh_is, weigh_set, unit_some, kids_leaf, kids_none, items_inner, items_none}
+use Rattle.pd_tree.specs.Below.{each_below, items_below, nodes_below, after, no_place, place_items, place_kids, place_left}
+use Rattle.pd_tree.specs.Stack.{entry, left_of_item, left_at, last_place, stacked, items_at, nodes_at, child_weight, weigh, TakesLast, ended, deep, Passes, GoesDown, GivesEntry}
+use Rattle.pd_tree.proofs.StackLemmas.{each_first, each_none, each_deep, child_alone, one_less, first_kid, first_item, stacked_is, stacked_set, weigh_is, weigh_set, unit_some, kids_leaf, kids_none, items_inner, items_none}
 
 -- what is told of a place, and then what is told below its children
 abbrev told_at : {X : Type 0} → ℕ → (NodePlace → List X) → (ℕ → ℕ → List X) → ℕ → NodePlace → List X

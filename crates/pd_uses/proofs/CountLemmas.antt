@@ -8,13 +8,12 @@ use Rattle.std.proofs.lemmas.List.Sums.{length-filter}
 use Rattle.std.proofs.lemmas.Simd.{map-map}
 use Rattle.pd_kinds.specs.Meaning.{Mapping, ThinDevice, ThinPool}
 use Rattle.pd_answers.specs.QueryLines.{is_exclusive, mapped_blocks}
-use Rattle.pd_thin_meaning.specs.declared.devices.DeviceRow.{DeviceRow}
-use Rattle.pd_thin_meaning.specs.Given.{device_of}
-use Rattle.pd_thin_meaning.specs.Runs.{mappings_below}
-use Rattle.pd_uses.specs.declared.data_use.DataUse.{DataUse}
-use Rattle.pd_uses.specs.Tallied.{is_alone, number_at, placed, rows_placed, times}
-use Rattle.pd_uses.specs.UseCounts.{number_of_uses}
-use Rattle.pd_uses.specs.Uses.{row_uses, rows_uses, use_by}
+use Rattle.pd_meaning_thin.specs.declared.devices.DeviceRow.{DeviceRow}
+use Rattle.pd_meaning_thin.specs.Given.{device_of}
+use Rattle.pd_meaning_thin.specs.Runs.{mappings_below}
+use Rattle.pd_uses.specs.declared.hits.DataUse.{DataUse}
+use Rattle.pd_uses.specs.ListWalk.{is_alone, number_at, placed, rows_placed, times}
+use Rattle.pd_uses.specs.Uses.{number_of_uses, row_uses, rows_uses, use_by}
 
 -- how many pass a test where there is one more
 pub number_more : {X : Type 0} → (p : X → Bool) (xs : List X) (x : X) → length (filter p (xs ++ (x ∷ []))) ≡ length (filter p xs) + cond (p x) 1 0

@@ -7,23 +7,22 @@ use Rattle.std.proofs.lemmas.List.Concat.{flat_map-append}
 use Rattle.std.proofs.lemmas.List.Elements.{filter-append}
 use Rattle.pd_kinds.specs.Graph.{block_at}
 use Rattle.pd_kinds.specs.Node.{is_inner_node}
-use Rattle.pd_tree.specs.Next.{IsNext}
-use Rattle.pd_thin_meaning.specs.declared.devices.DeviceRow.{DeviceRow}
-use Rattle.pd_query.proofs.PutsLemmas.{two_told}
-use Rattle.pd_uses.specs.declared.data_use.DataUse.{DataUse}
+use Rattle.pd_kinds.proofs.ResultLemmas.{if_both}
+use Rattle.pd_tree.specs.Stack.{IsNext}
+use Rattle.pd_meaning_thin.specs.declared.devices.DeviceRow.{DeviceRow}
+use Rattle.pd_uses.specs.declared.hits.DataUse.{DataUse}
 use Rattle.pd_uses.specs.declared.found.Found.{Found}
-use Rattle.pd_uses.specs.declared.found.Note.{Note}
-use Rattle.pd_uses.specs.declared.found.Note.TheVariants.{Unknown, Bare, Hits}
+use Rattle.pd_uses.specs.declared.found.HitNote.{HitNote}
+use Rattle.pd_uses.specs.declared.found.HitNote.TheVariants.{Unknown, Bare, Hits}
 use Rattle.pd_uses.specs.declared.found.Visit.{Visit}
 use Rattle.pd_uses.specs.declared.hits.Hit.{Hit}
 use Rattle.pd_uses.specs.declared.hits.Region.{Region}
-use Rattle.pd_uses.specs.declared.parts.LeafPart.{LeafPart}
+use Rattle.pd_uses.specs.declared.hits.LeafPart.{LeafPart}
 use Rattle.pd_uses.specs.Descent.{FindsRows}
 use Rattle.pd_uses.specs.FoundUses.{Closes, Finds, HasLeaf, HasNote, HasVisit, IsNote, IsRight, found_uses, leaf_at, note_at, visit_uses, visits_uses}
 use Rattle.pd_uses.specs.Hits.{hits_below, hits_each, hits_in, is_hit, use_of}
-use Rattle.pd_uses.specs.Ordered.{is_within}
+use Rattle.pd_uses.specs.Uses.{is_within, row_uses, rows_uses}
 use Rattle.pd_uses.specs.Parts.{AreParts, hits_at}
-use Rattle.pd_uses.specs.Uses.{row_uses, rows_uses}
 use Rattle.pd_uses.proofs.HitLemmas.{bare_nearer, below_leaf, each_more, each_one, row_hits}
 
 -- the uses by visits to leaves that are there stay where a leaf comes
@@ -54,7 +53,7 @@ one_more n leaves hits is = omega (arith, is, length-append leaves (hits ∷ [])
 
 module _ (region : Region) (image : List (List ℕ)) where
   -- a note stays right where a leaf comes
-  note_stays : (leaves : List (List Hit)) (hits : List Hit) (b : ℕ) (one : Note) → IsNote region image leaves b one → IsNote region image (leaves ++ (hits ∷ [])) b one
+  note_stays : (leaves : List (List Hit)) (hits : List Hit) (b : ℕ) (one : HitNote) → IsNote region image leaves b one → IsNote region image (leaves ++ (hits ∷ [])) b one
   note_stays leaves hits b Unknown right = tt
   note_stays leaves hits b (Bare levels) right = right
   note_stays leaves hits b (Hits n) right =
@@ -62,11 +61,11 @@ module _ (region : Region) (image : List (List ℕ)) where
       (omega (arith, within, one_more (length leaves) leaves hits refl), λ j. right.1 j ∙ sym (get_or_append_left leaves (hits ∷ []) [] n right.0))
 
   -- and where leaves and the note are the same
-  same_note : (b : ℕ) {leaves leaves' : List (List Hit)} {one two : Note} → leaves' ≡ leaves → two ≡ one → IsNote region image leaves b one → IsNote region image leaves' b two
+  same_note : (b : ℕ) {leaves leaves' : List (List Hit)} {one two : HitNote} → leaves' ≡ leaves → two ≡ one → IsNote region image leaves b one → IsNote region image leaves' b two
   same_note b {leaves} {leaves'} {one} {two} same is right = subst (λ (list : List (List Hit)). IsNote region image list b two) (sym same) (subst (IsNote region image leaves b) (sym is) right)
 
   -- a block has a note
-  pub right_noted : (b : ℕ) (one : Note) {old new : Found} → HasNote b one old new → IsRight region image old → IsNote region image old.leaves.items b one → IsRight region image new
+  pub right_noted : (b : ℕ) (one : HitNote) {old new : Found} → HasNote b one old new → IsRight region image old → IsNote region image old.leaves.items b one → IsRight region image new
   right_noted b one {old} {new} has right is = record {
     notes = λ c. elim (cases_eq c b) [
       | inl same ↦ subst (λ (d : ℕ). IsNote region image new.leaves.items d (note_at new.notes.items d)) (sym same) here
@@ -104,7 +103,7 @@ module _ (region : Region) (image : List (List ℕ)) where
   }
 
   -- a note more says nothing of the uses
-  pub finds_noted : (id b : ℕ) (one : Note) (hits : List Hit) {some : Bool} {old mid new : Found} → Finds region image id hits some old mid → HasNote b one mid new → IsNote region image mid.leaves.items b one
+  pub finds_noted : (id b : ℕ) (one : HitNote) (hits : List Hit) {some : Bool} {old mid new : Found} → Finds region image id hits some old mid → HasNote b one mid new → IsNote region image mid.leaves.items b one
       → Finds region image id hits some old new
   finds_noted id b one hits {old = old} {mid = mid} {new = new} finds has is = record {
     right = right_noted b one has finds.right is;
@@ -123,7 +122,7 @@ module _ (region : Region) (image : List (List ℕ)) where
       → Finds region image id hits true old new
   finds_known id leaf hits {old} {new} has right within is = record {
     right = record {
-      notes = λ c. same_note c has.leaves (ap (λ (notes : List Note). note_at notes c) has.notes) (right.notes c);
+      notes = λ c. same_note c has.leaves (ap (λ (notes : List HitNote). note_at notes c) has.notes) (right.notes c);
       visits = rw (has.leaves, has.visits) (there_last (length old.leaves.items) old.visits.items (record { id = id; leaf = leaf }) right.visits within);
     };
     uses = rw (has.leaves, has.visits, is) (uses_last old.leaves.items old.visits.items (record { id = id; leaf = leaf }));
@@ -133,7 +132,7 @@ module _ (region : Region) (image : List (List ℕ)) where
   -- and one that comes
   right_leaf : (leaf : ℕ) (hits : List Hit) {old new : Found} → HasLeaf leaf hits old new → IsRight region image old → IsRight region image new
   right_leaf leaf hits {old} {new} has right = record {
-    notes = λ c. same_note c has.leaves (ap (λ (notes : List Note). note_at notes c) has.notes) (note_stays old.leaves.items hits c (note_at old.notes.items c) (right.notes c));
+    notes = λ c. same_note c has.leaves (ap (λ (notes : List HitNote). note_at notes c) has.notes) (note_stays old.leaves.items hits c (note_at old.notes.items c) (right.notes c));
     visits = rw (has.leaves, has.visits) (there_more (length old.leaves.items) (length (old.leaves.items ++ (hits ∷ []))) (omega (arith, one_more (length old.leaves.items) old.leaves.items hits refl)) old.visits.items right.visits);
   }
 
@@ -230,12 +229,12 @@ module _ (held : Option (List (List ℕ))) (region : Region) (id edges b : ℕ) 
 
   pub told_more : (bs : List ℕ) (some here : Bool) (old mid new : Found) → Found_more (λ image. hits_each region image edges bs) some old mid → Found_more (λ image. hits_below region image edges b) here mid new
       → Found_more (λ image. hits_each region image edges (bs ++ (b ∷ []))) (some || here) old new
-  told_more bs some here old mid new first second = two_told held (λ image one two right. let so_far = one right in finds_more region image id edges b bs so_far (two so_far.right)) first second
+  told_more bs some here old mid new first second = if_both held (λ image one two right. let so_far = one right in finds_more region image id edges b bs so_far (two so_far.right)) first second
 
   pub told_below : (below : List ℕ) (here : Bool) (old mid last new : Found) → IfSome held (λ image. IsRight region image old → (mid ≡ old) × (hits_below region image edges b ≡ hits_each region image (edges - 1) below))
       → Found_more (λ image. hits_each region image (edges - 1) below) here mid last → Closes b edges here last new → Found_more (λ image. hits_below region image edges b) here old new
   told_below below here old mid last new opened found closes =
-      two_told held (λ image has finds right.
+      if_both held (λ image has finds right.
       let same = (has right).0 in
       finds_closed region image id edges b (hits_each region image (edges - 1) below) here
       (subst (λ (from : Found). Finds region image id (hits_each region image (edges - 1) below) here from last) same (finds (subst (IsRight region image) (sym same) right))) (has right).1 closes) opened found

@@ -1,7 +1,7 @@
 -- The mappings to a region's blocks below a node, by what the node has and by its children.
-use Rattle.std.proofs.Common.{◌≡◌, ℕ, zero, suc, ◌+◌, ◌-◌, ◌<◌, ◌≤◌, true, false, List, [], ◌∷◌, ◌++◌, map, filter, length, refl, sym, ap, ◌∙◌, arith, inl, inr}
+use Rattle.std.proofs.Common.{◌≡◌, ℕ, zero, suc, ◌+◌, ◌-◌, ◌<◌, ◌≤◌, true, false, List, [], ◌∷◌, ◌++◌, map, filter, length, refl, sym, ap, ◌∙◌, arith, inl, inr, min, max, ◌&&◌, ◌||◌, nat_le, nat_lt, length-append}
 use Rattle.std.specs.List.{flat_map, range_with_len}
-use Rattle.std.proofs.lemmas.Bool.{cases_Bool}
+use Rattle.std.proofs.lemmas.Bool.{cases_Bool, and_parts, le-ltb, leb-true, lt-ltb, ltb-true, or_cases}
 use Rattle.std.proofs.lemmas.List.{append-nil, map-append}
 use Rattle.std.proofs.lemmas.List.Concat.{flat_map-append}
 use Rattle.std.proofs.lemmas.List.Elements.{filter-append}
@@ -10,17 +10,19 @@ use Rattle.pd_kinds.specs.Graph.{block_at}
 use Rattle.pd_kinds.specs.Node.{is_inner_node}
 use Rattle.pd_value.specs.declared.thin.BlockTime.{BlockTime}
 use Rattle.pd_tree.specs.Below.{each_below, items_below, items_from, kids_from}
-use Rattle.pd_tree.proofs.BelowLemmas.{each_none, items_below_is}
+use Rattle.pd_tree.proofs.StackLemmas.{each_none, items_below_is, items_inner, kids_leaf}
 use Rattle.pd_tree.proofs.NextLemmas.{items_outside}
-use Rattle.pd_tree.proofs.StackLemmas.{items_inner, kids_leaf}
-use Rattle.pd_thin_meaning.specs.Items.{block_time_of}
-use Rattle.pd_thin_meaning.specs.Joined.{mapping_of}
-use Rattle.pd_thin_meaning.specs.declared.devices.DeviceRow.{DeviceRow}
+use Rattle.pd_meaning_thin.specs.Runs.{block_time_of, mapping_of}
+use Rattle.pd_meaning_thin.specs.declared.devices.DeviceRow.{DeviceRow}
 use Rattle.pd_uses.specs.declared.hits.Hit.{Hit}
 use Rattle.pd_uses.specs.declared.hits.Region.{Region}
-use Rattle.pd_uses.specs.Hits.{hit_of, hits_below, hits_each, hits_in, is_hit, use_of}
-use Rattle.pd_uses.specs.Ordered.{is_within}
-use Rattle.pd_uses.specs.Uses.{row_uses, use_by}
+use Rattle.pd_uses.specs.Hits.{hit_of, hits_below, hits_each, hits_in, is_hit, use_of, has_block}
+use Rattle.pd_uses.specs.Uses.{is_within, row_uses, use_by}
+use Rattle.pd_uses.specs.declared.hits.Span.{Span}
+use Rattle.pd_uses.specs.declared.hits.LeafPart.{LeafPart}
+use Rattle.pd_uses.specs.Parts.{AreParts, hits_at, part_hits}
+use Rattle.pd_uses.specs.FoundUses.{leaf_at}
+use Rattle.pd_uses.specs.Spans.{IsSpan}
 
 -- where nothing is in both lists, nothing is in either
 none_in_both : {X : Type 0} → (xs ys : List X) → xs ++ ys ≡ [] → (xs ≡ []) × (ys ≡ [])
@@ -130,3 +132,84 @@ module _ (region : Region) where
     pub row_hits : (row : DeviceRow) → map (use_of row.id) (hits_below region image 63 row.root) ≡ filter (is_within region.first region.end) (row_uses image row)
     unfolding hits_below
     row_hits row = hits_as_uses row.id (items_below 8 block_time_of image 63 row.root)
+
+-- Which mappings lead to a part, by the blocks between which they lie, and leaf by leaf.
+
+-- a mapping more
+pub span_more : (span : Span) (least most : ℕ) (hit : Hit) (hits : List Hit) → least ≡ min span.least hit.block → most ≡ max span.most hit.block → IsSpan span hits
+    → IsSpan (record { least = least; most = most }) (hits ++ (hit ∷ []))
+span_more span least most hit [] low high all = ((omega arith, omega arith), tt)
+span_more span least most hit (one ∷ hits) low high all =
+    let from = all.0.0 in
+    let to = all.0.1 in
+    ((omega arith, omega arith), span_more span least most hit hits low high all.1)
+
+module _ (part : Region) where
+  before_it : (block : ℕ) → block < part.first → has_block part block ≡ false
+  before_it block before = rw (lt-ltb block part.first before) refl
+
+  past_it : (block : ℕ) → part.end ≤ block → has_block part block ≡ false
+  past_it block past = elim (cases_Bool (nat_lt block part.first)) [
+    | inl before ↦ rw before refl
+    | inr from ↦ rw (from, le-ltb block part.end past) refl
+  ]
+
+  in_it : (block : ℕ) → part.first ≤ block → block < part.end → has_block part block ≡ true
+  in_it block from before = rw (le-ltb block part.first from, lt-ltb block part.end before) refl
+
+  -- all lead before the part, or past it, or into it
+  all_before : (span : Span) (hits : List Hit) → span.most < part.first → IsSpan span hits → filter (is_hit part) hits ≡ []
+  all_before span [] before all = refl
+  all_before span (hit ∷ hits) before all = let most = all.0.1 in rw (before_it hit.block (omega arith)) (all_before span hits before all.1)
+
+  all_past : (span : Span) (hits : List Hit) → part.end ≤ span.least → IsSpan span hits → filter (is_hit part) hits ≡ []
+  all_past span [] past all = refl
+  all_past span (hit ∷ hits) past all = let least = all.0.0 in rw (past_it hit.block (omega arith)) (all_past span hits past all.1)
+
+  pub all_outside : (span : Span) (hits : List Hit) → IsSpan span hits → (nat_lt span.most part.first || nat_le part.end span.least) ≡ true → filter (is_hit part) hits ≡ []
+  all_outside span hits all outside = elim (or_cases (nat_lt span.most part.first) (nat_le part.end span.least) outside) [
+    | inl before ↦ all_before span hits (ltb-true span.most part.first before) all
+    | inr past ↦ all_past span hits (leb-true part.end span.least past) all
+  ]
+
+  all_in : (span : Span) (hits : List Hit) → part.first ≤ span.least → span.most < part.end → IsSpan span hits → filter (is_hit part) hits ≡ hits
+  all_in span [] from before all = refl
+  all_in span (hit ∷ hits) from before all =
+      let least = all.0.0 in
+      let most = all.0.1 in
+      rw (in_it hit.block (omega arith) (omega arith)) (ap (λ (xs : List Hit). hit ∷ xs) (all_in span hits from before all.1))
+
+  pub all_inside : (span : Span) (hits : List Hit) → IsSpan span hits → (nat_le part.first span.least && nat_lt span.most part.end) ≡ true → filter (is_hit part) hits ≡ hits
+  all_inside span hits all inside =
+      let both = and_parts (nat_le part.first span.least) (nat_lt span.most part.end) inside in
+      all_in span hits (leb-true part.first span.least both.0) (ltb-true span.most part.end both.1) all
+
+  -- what no leaf has of the part, and a leaf more
+  abbrev Has : List (List Hit) → List LeafPart → ℕ → Type 0
+  Has leaves parts n = hits_at leaves parts n ≡ filter (is_hit part) (leaf_at leaves n)
+
+  none_has : (n : ℕ) → Has [] [] n
+  none_has zero = refl
+  none_has (suc n) = refl
+
+  pub no_parts : AreParts part [] []
+  no_parts = record { number = refl; each = none_has }
+
+  has_more : (leaves : List (List Hit)) (parts : List LeafPart) (hits : List Hit) (has : LeafPart) → length parts ≡ length leaves → part_hits hits has ≡ filter (is_hit part) hits
+      → ((n : ℕ) → Has leaves parts n) → (n : ℕ) → Has (leaves ++ (hits ∷ [])) (parts ++ (has ∷ [])) n
+  has_more [] [] hits has number is each zero = is
+  has_more [] [] hits has number is each (suc n) = none_has n
+  has_more [] (other ∷ parts) hits has number is each n = absurd (omega arith)
+  has_more (leaf ∷ leaves) [] hits has number is each n = absurd (omega arith)
+  has_more (leaf ∷ leaves) (other ∷ parts) hits has number is each zero = each 0
+  has_more (leaf ∷ leaves) (other ∷ parts) hits has number is each (suc n) = has_more leaves parts hits has (omega arith) is (λ m. each (suc m)) n
+
+  pub parts_more : (leaves : List (List Hit)) (parts : List LeafPart) (hits : List Hit) (has : LeafPart) → part_hits hits has ≡ filter (is_hit part) hits → AreParts part leaves parts
+      → AreParts part (leaves ++ (hits ∷ [])) (parts ++ (has ∷ []))
+  parts_more leaves parts hits has is are = record {
+    number = number_more;
+    each = has_more leaves parts hits has are.number is are.each;
+  }
+    where
+      number_more : length (parts ++ (has ∷ [])) ≡ length (leaves ++ (hits ∷ []))
+      number_more = let number = are.number in omega (arith, length-append parts (has ∷ []), length-append leaves (hits ∷ []))

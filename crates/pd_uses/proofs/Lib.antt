@@ -1,12 +1,7 @@
-pub mod OrderLemmas
-pub mod CountLemmas
-pub mod TallyLemmas
-pub mod TallyingLemmas
-pub mod LineLemmas
-pub mod SoundLemmas
-pub mod MeetLemmas
-pub mod ListWalkLemmas
-pub mod ListRowLemmas
 pub mod HitLemmas
+pub mod LineLemmas
+pub mod ListWalkLemmas
+pub mod CountLemmas
 pub mod FoundLemmas
-pub mod PartLemmas
+pub mod ListRowLemmas
+pub mod TallyLemmas

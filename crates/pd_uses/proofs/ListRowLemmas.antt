@@ -3,29 +3,25 @@ use Rattle.std.proofs.Common.{◌≡◌, ℕ, ◌+◌, ◌≤◌, nat_eq, List, 
 use Rattle.std.specs.List.{AllByRecursion, flat_map, list_any}
 use Rattle.std.proofs.lemmas.Bool.{cases_Bool, cases_lt, eqb-true}
 use Rattle.std.proofs.lemmas.List.{append-nil}
-use Rattle.pd_kinds.specs.declared.thin_super.ThinSuper.{ThinSuper}
+use Rattle.pd_kinds.specs.declared.superblocks.ThinSuper.{ThinSuper}
 use Rattle.pd_kinds.specs.Graph.{block_at}
 use Rattle.pd_kinds.specs.Meaning.{Mapping}
-use Rattle.pd_kinds.specs.ThinSuper.{thin_fields}
-use Rattle.pd_laws.proofs.AllLemmas.{all_from, all_from_two, all_of}
+use Rattle.pd_kinds.specs.ThinFormat.{thin_fields}
+use Rattle.pd_kinds.proofs.ListLemmas.{all_from, all_from_two, all_of}
 use Rattle.pd_laid.proofs.GatherLemmas.{map_joined}
 use Rattle.pd_tree.specs.Below.{nodes_below}
-use Rattle.pd_thin_meaning.specs.declared.devices.DeviceRow.{DeviceRow}
-use Rattle.pd_thin_meaning.specs.Given.{pool_rows, super_rows}
-use Rattle.pd_thin_meaning.specs.Joined.{mapping_of}
-use Rattle.pd_thin_meaning.specs.Runs.{mappings_below}
-use Rattle.pd_shared_leaves.specs.Leaves.{IsProperTree}
-use Rattle.pd_shared_leaves.specs.Marks.{occurs}
-use Rattle.pd_shared_leaves.proofs.BelowLemmas.{nodes_through}
-use Rattle.pd_shared_leaves.proofs.OccursLemmas.{Among, among_there, by_first, occurs_once}
-use Rattle.pd_uses.specs.declared.data_use.DataUse.{DataUse}
-use Rattle.pd_uses.specs.declared.meets.Meets.{Meets}
+use Rattle.pd_tree.proofs.OnceLemmas.{by_first}
+use Rattle.pd_meaning_thin.specs.declared.devices.DeviceRow.{DeviceRow}
+use Rattle.pd_meaning_thin.specs.Given.{pool_rows, super_rows}
+use Rattle.pd_meaning_thin.specs.Runs.{mapping_of, mappings_below}
+use Rattle.pd_meaning_thin.specs.Walk.{IsProperTree}
+use Rattle.pd_meaning_thin.specs.Marks.{occurs}
+use Rattle.pd_meaning_thin.proofs.OccursLemmas.{nodes_through, Among, among_there, occurs_once}
+use Rattle.pd_uses.specs.declared.hits.DataUse.{DataUse}
+use Rattle.pd_uses.specs.declared.list_walk.Meets.{Meets}
 use Rattle.pd_uses.specs.declared.tallies.Tallies.{Tallies}
-use Rattle.pd_uses.specs.ListWalk.{IsTold, IsToldBelow, TalliesRows, Walks, WalksRows, mappings_at}
-use Rattle.pd_uses.specs.Meets.{times_met}
-use Rattle.pd_uses.specs.Tallying.{HasTallied}
-use Rattle.pd_uses.specs.UseCounts.{number_of_uses}
-use Rattle.pd_uses.specs.Uses.{row_uses, rows_told, use_by, uses_told}
+use Rattle.pd_uses.specs.ListWalk.{IsTold, IsToldBelow, TalliesRows, Walks, WalksRows, mappings_at, times_met, HasTallied}
+use Rattle.pd_uses.specs.Uses.{number_of_uses, row_uses, rows_told, use_by, uses_told}
 use Rattle.pd_uses.proofs.CountLemmas.{filter_mapped, number_of_both}
 use Rattle.pd_uses.proofs.ListWalkLemmas.{items_are, items_at, still_told, told_both, told_times}
 

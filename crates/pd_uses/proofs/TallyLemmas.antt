@@ -5,7 +5,7 @@ use Rattle.std.proofs.lemmas.Bool.{cases_Bool, cases_eq, cases_lt, eqb-true, lt-
 use Rattle.std.proofs.lemmas.List.{get_or_at, get_or_past, get_or_append_left}
 use Rattle.std.proofs.lemmas.Map.Steps.{length-le_from_distinct_below}
 use Rattle.pd_count.specs.Counted.{Counted, count_of, PutsNumber}
-use Rattle.pd_uses.specs.Tallied.{IsTallied, IsUser, is_alone, lowered_at, number_at, raised_at, times, times_at}
+use Rattle.pd_uses.specs.ListWalk.{IsTallied, IsUser, is_alone, lowered_at, number_at, raised_at, times, times_at}
 use Rattle.pd_uses.proofs.CountLemmas.{below_if_there, distinct_if_once, filter_mapped, number_more}
 
 -- what is tallied where a kind of blocks is another at one block

@@ -1,14 +1,13 @@
 -- The way from the roots of a pool's devices to the leaves with mappings to the blocks of a region.
 use Rattle.std.specs.Prelude.{◌≡◌, ℕ, ◌-◌, ◌<◌, List, ◌++◌, filter}
-use Rattle.pd_thin_meaning.specs.declared.devices.DeviceRow.{DeviceRow}
+use Rattle.pd_meaning_thin.specs.declared.devices.DeviceRow.{DeviceRow}
 use Rattle.pd_uses.specs.declared.descent.Opened.{Opened}
 use Rattle.pd_uses.specs.declared.descent.Opened.TheVariants.{Done, Inner}
 use Rattle.pd_uses.specs.declared.found.Found.{Found}
 use Rattle.pd_uses.specs.declared.hits.Region.{Region}
 use Rattle.pd_uses.specs.FoundUses.{Finds, IsRight, found_uses}
 use Rattle.pd_uses.specs.Hits.{hits_below, hits_each}
-use Rattle.pd_uses.specs.Ordered.{is_within}
-use Rattle.pd_uses.specs.Uses.{rows_uses}
+use Rattle.pd_uses.specs.Uses.{is_within, rows_uses}
 
 -- what came of a block: all below it was found, or nothing, and it is below its children
 abbrev pub IsOpened : Region → List (List ℕ) → ℕ → ℕ → ℕ → Opened → Found → Found → Type 0

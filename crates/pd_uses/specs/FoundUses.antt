@@ -1,17 +1,17 @@
 -- What is noted of a pool's metadata blocks, and the uses by the visits of devices to leaves.
 use Rattle.std.specs.Prelude.{◌≡◌, ◌≢◌, ℕ, ◌<◌, ◌≤◌, Bool, true, false, List, [], ◌∷◌, ◌++◌, map, length, slice_index_or}
 use Rattle.std.specs.List.{AllByRecursion, flat_map}
-use Rattle.pd_uses.specs.declared.data_use.DataUse.{DataUse}
+use Rattle.pd_uses.specs.declared.hits.DataUse.{DataUse}
 use Rattle.pd_uses.specs.declared.hits.Hit.{Hit}
 use Rattle.pd_uses.specs.declared.hits.Region.{Region}
 use Rattle.pd_uses.specs.declared.found.Found.{Found}
-use Rattle.pd_uses.specs.declared.found.Note.{Note}
-use Rattle.pd_uses.specs.declared.found.Note.TheVariants.{Unknown, Bare, Hits}
+use Rattle.pd_uses.specs.declared.found.HitNote.{HitNote}
+use Rattle.pd_uses.specs.declared.found.HitNote.TheVariants.{Unknown, Bare, Hits}
 use Rattle.pd_uses.specs.declared.found.Visit.{Visit}
 use Rattle.pd_uses.specs.Hits.{hits_below, use_of}
 
 -- the note of a block, and the mappings of a leaf by its number
-abbrev pub note_at : List Note → ℕ → Note
+abbrev pub note_at : List HitNote → ℕ → HitNote
 note_at notes b = slice_index_or notes b Unknown
 
 abbrev pub leaf_at : List (List Hit) → ℕ → List Hit
@@ -28,7 +28,7 @@ abbrev pub found_uses : Found → List DataUse
 found_uses found = visits_uses found.leaves.items found.visits.items
 
 -- a note is right: no mapping below the block leads to the region, or it is a leaf, and these are its mappings that do
-abbrev pub IsNote : Region → List (List ℕ) → List (List Hit) → ℕ → Note → Type 0
+abbrev pub IsNote : Region → List (List ℕ) → List (List Hit) → ℕ → HitNote → Type 0
 IsNote region image leaves b Unknown = Unit {0}
 IsNote region image leaves b (Bare levels) = (j : ℕ) → j ≤ levels → hits_below region image j b ≡ []
 IsNote region image leaves b (Hits n) = (n < length leaves) × ((j : ℕ) → hits_below region image j b ≡ leaf_at leaves n)
@@ -39,7 +39,7 @@ pub record IsRight (region : Region) (image : List (List ℕ)) (found : Found) :
   pub visits : AllByRecursion (λ (visit : Visit). visit.leaf < length found.leaves.items) found.visits.items
 
 -- a block has a note, if it is one of those that have, and nothing else changed
-pub record HasNote (b : ℕ) (one : Note) (old new : Found) : Type 0 where
+pub record HasNote (b : ℕ) (one : HitNote) (old new : Found) : Type 0 where
   pub leaves : new.leaves.items ≡ old.leaves.items
   pub visits : new.visits.items ≡ old.visits.items
   pub others : (c : ℕ) → c ≢ b → note_at new.notes.items c ≡ note_at old.notes.items c

@@ -3,8 +3,8 @@ use Rattle.std.specs.Prelude.{ℕ, Bool, ◌&&◌, not, nat_lt, List, map, filte
 use Rattle.std.specs.List.{flat_map}
 use Rattle.pd_value.specs.declared.thin.BlockTime.{BlockTime}
 use Rattle.pd_tree.specs.Below.{items_below, items_from}
-use Rattle.pd_thin_meaning.specs.Items.{block_time_of}
-use Rattle.pd_uses.specs.declared.data_use.DataUse.{DataUse}
+use Rattle.pd_meaning_thin.specs.Runs.{block_time_of}
+use Rattle.pd_uses.specs.declared.hits.DataUse.{DataUse}
 use Rattle.pd_uses.specs.declared.hits.Hit.{Hit}
 use Rattle.pd_uses.specs.declared.hits.Region.{Region}
 

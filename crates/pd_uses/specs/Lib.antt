@@ -1,13 +1,7 @@
 pub mod Uses
-pub mod Ordered
-pub mod UseCounts
-pub mod Tallied
-pub mod Tallying
-pub mod Meets
 pub mod ListWalk
-pub mod UseLines
 pub mod Hits
 pub mod Spans
-pub mod FoundUses
 pub mod Parts
+pub mod FoundUses
 pub mod Descent

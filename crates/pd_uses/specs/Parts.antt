@@ -2,8 +2,8 @@
 use Rattle.std.specs.Prelude.{◌≡◌, ℕ, List, [], filter, length, slice_index_or}
 use Rattle.pd_uses.specs.declared.hits.Hit.{Hit}
 use Rattle.pd_uses.specs.declared.hits.Region.{Region}
-use Rattle.pd_uses.specs.declared.parts.LeafPart.{LeafPart}
-use Rattle.pd_uses.specs.declared.parts.LeafPart.TheVariants.{Nothing, Whole, Cut}
+use Rattle.pd_uses.specs.declared.hits.LeafPart.{LeafPart}
+use Rattle.pd_uses.specs.declared.hits.LeafPart.TheVariants.{Nothing, Whole, Cut}
 use Rattle.pd_uses.specs.FoundUses.{leaf_at}
 use Rattle.pd_uses.specs.Hits.{is_hit}
 

@@ -1,25 +1,24 @@
-//! The way from the roots of a pool's devices to the leaves with mappings to the blocks of a region.
+//! The way from the roots of a pool's devices to the leaves with mappings to the blocks of a region (`thin_rmap`).
 
 ghost use Rattle.std.specs.Prelude.{◌≡◌, ℕ, List, ◌∷◌, [], false, filter, IfOk, IfSome, OnOk};
 ghost use Rattle.pd_kinds.specs.Graph.{block_at};
 ghost use Rattle.pd_kinds.specs.Node.{is_inner_node};
 ghost use Rattle.pd_image.specs.Device.{IsAttached, OnlyReads};
 ghost use Rattle.pd_tree.specs.Below.{kids_from};
-ghost use Rattle.pd_thin_meaning.specs.Devices.{rows_left};
-ghost use Rattle.pd_query.specs.Failing.{StartFails};
+ghost use Rattle.pd_meaning_thin.specs.Runs.{rows_left};
+ghost use Rattle.pd_query.specs.Query.{StartFails};
 ghost use Rattle.pd_uses.specs.Descent.{FindsRows, IsDeeper, IsOpened};
 ghost use Rattle.pd_uses.specs.FoundUses.{Finds, IsRight, found_uses};
 ghost use Rattle.pd_uses.specs.Hits.{hits_each, hits_in};
-ghost use Rattle.pd_uses.specs.Ordered.{is_within};
-ghost use Rattle.pd_uses.specs.Uses.{super_uses};
+ghost use Rattle.pd_uses.specs.Uses.{is_within, super_uses};
 
-use crate::found::{Found, Note};
+use crate::found::{Found, HitNote};
 use crate::hits::{LeafHits, Region};
 use pd_image::Device;
 use pd_kinds::{Block, MAX_META_BLOCKS, ThinSuper};
+use pd_meaning_thin::{DeviceRow, ThinDevices};
 use pd_node::{child, entries, is_inner};
 use pd_query::QueryFault;
-use pd_thin_meaning::{DeviceRow, ThinDevices};
 use pd_value::BlockTime;
 use std::alloc::{AllocError, Global};
 
@@ -72,11 +71,11 @@ fn find_leaf(
 {
     let hits = LeafHits::of(alloc, wanted.region, block)?;
     if hits.as_slice().is_empty() {
-        found.set_note(b, Note::Bare(u32::MAX));
+        found.set_note(b, HitNote::Bare(u32::MAX));
         return Ok(false);
     }
     let number = found.add_leaf(hits)?;
-    found.set_note(b, Note::Hits(number));
+    found.set_note(b, HitNote::Hits(number));
     found.visit(wanted.id, number)?;
     Ok(true)
 }
@@ -148,8 +147,8 @@ fn open_node<D: Device>(
     ensures faults { StartFails result (D.state dev.old).faults (D.state dev.new).faults }
 {
     match found.note(b) {
-        Note::Bare(known) if edges <= known => Ok(Opened::Done(false)),
-        Note::Hits(leaf) => {
+        HitNote::Bare(known) if edges <= known => Ok(Opened::Done(false)),
+        HitNote::Hits(leaf) => {
             found.visit(wanted.id, leaf)?;
             Ok(Opened::Done(true))
         }
@@ -207,7 +206,8 @@ fn find_row<D: Device>(
     found: &mut Found,
 ) -> Result<(), QueryFault>
     requires { IsAttached (D.state dev.old) }
-    ensures finds { OnOk result (IfSome (D.state dev.old).held (λ image. IsRight region image found.old → FindsRows region image (row.now ∷ []) found.old found.new)) }
+    ensures finds { OnOk result (IfSome (D.state dev.old).held (λ image. IsRight region image found.old
+        → FindsRows region image (row.now ∷ []) found.old found.new)) }
     ensures kept { OnlyReads (D.state dev.old) (D.state dev.new) }
     ensures faults { StartFails result (D.state dev.old).faults (D.state dev.new).faults }
 {
@@ -226,7 +226,8 @@ fn find_rows<D: Device>(
     found: &mut Found,
 ) -> Result<(), QueryFault>
     requires { IsAttached (D.state dev.old) }
-    ensures finds { OnOk result (IfSome (D.state dev.old).held (λ image. IsRight region image found.old → FindsRows region image (rows_left image devices.old) found.old found.new)) }
+    ensures finds { OnOk result (IfSome (D.state dev.old).held (λ image. IsRight region image found.old
+        → FindsRows region image (rows_left image devices.old) found.old found.new)) }
     ensures kept { OnlyReads (D.state dev.old) (D.state dev.new) }
     ensures faults { StartFails result (D.state dev.old).faults (D.state dev.new).faults }
 {
@@ -254,7 +255,8 @@ pub(crate) fn find_region<D: Device>(
     region: Region,
 ) -> Result<Found, QueryFault>
     requires { IsAttached (D.state dev.old) }
-    ensures uses { IfOk result (λ found. IfSome (D.state dev.old).held (λ image. found_uses found ≡ filter (is_within region.first region.end) (super_uses image s.now))) }
+    ensures uses { IfOk result (λ found. IfSome (D.state dev.old).held
+        (λ image. found_uses found ≡ filter (is_within region.first region.end) (super_uses image s.now))) }
     ensures kept { OnlyReads (D.state dev.old) (D.state dev.new) }
     ensures faults { StartFails result (D.state dev.old).faults (D.state dev.new).faults }
 {

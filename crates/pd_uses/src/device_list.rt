@@ -1,25 +1,23 @@
-//! The list of a pool's devices.
+//! The list of a pool's devices (`thin_ls`).
 
 ghost use Rattle.std.specs.Prelude.{◌≡◌, drop, slice_index};
+ghost use Rattle.pd_answers.specs.QueryLines.{device_list_lines};
 ghost use Rattle.pd_image.specs.Device.{IsAttached, OnlyReads};
 ghost use Rattle.pd_image.specs.Sink.{KeepsSink};
 ghost use Rattle.pd_lines.specs.Printer.{printing};
 ghost use Rattle.pd_lines.specs.Printing.{Prints};
-ghost use Rattle.pd_answers.specs.QueryLines.{device_list_lines};
-ghost use Rattle.pd_thin_meaning.specs.Devices.{rows_left};
-ghost use Rattle.pd_thin_meaning.specs.Given.{super_rows};
-ghost use Rattle.pd_query.specs.Puts.{PrintsSome, PutsText};
-ghost use Rattle.pd_query.specs.Failing.{QueryEnds, SinkFails};
-ghost use Rattle.pd_uses.specs.UseLines.{PutsLines, blocks_part, details_part, device_line, tallied_rows};
+ghost use Rattle.pd_meaning_thin.specs.Runs.{rows_left};
+ghost use Rattle.pd_meaning_thin.specs.Given.{super_rows};
+ghost use Rattle.pd_query.specs.Query.{PrintsSome, PutsText, QueryEnds, SinkFails};
+ghost use Rattle.pd_uses.specs.Uses.{PutsLines, blocks_part, details_part, device_line, tallied_rows};
 
-use crate::counting::exclusive_blocks;
-use crate::lines::add_labeled;
-use crate::walk::super_to_ask;
+use crate::asking::{add_labeled, super_to_ask};
+use crate::tallies::exclusive_blocks;
 use pd_image::{Device, Sink};
 use pd_kinds::ThinSuper;
 use pd_lines::{LineBuffer, Printer};
+use pd_meaning_thin::{DeviceRow, ThinDevices, rows_are_the_devices};
 use pd_query::{Query, QueryFault, finish, print_line};
-use pd_thin_meaning::{DeviceRow, ThinDevices, rows_are_the_devices};
 use std::alloc::Global;
 
 /// Puts a line for each thin device of the pool with this superblock, by ascending number: how many blocks it maps, how
@@ -58,7 +56,8 @@ fn put_devices<D: Device, K: Sink>(
 ) -> Result<(), QueryFault>
     requires dev { IsAttached (D.state dev.old) }
     requires out { (K.state out.old).access ≡ 1 }
-    ensures text { PutsText (D.state dev.old).held (λ image. tallied_rows exclusive.now (super_rows image s.now)) result (K.state out.old).written (K.state out.new).written }
+    ensures text { PutsText (D.state dev.old).held
+        (λ image. tallied_rows exclusive.now (super_rows image s.now)) result (K.state out.old).written (K.state out.new).written }
     ensures kept { OnlyReads (D.state dev.old) (D.state dev.new) }
     ensures sink { KeepsSink (K.state out.old) (K.state out.new) }
     ensures faults { QueryEnds result (D.state dev.old).faults (D.state dev.new).faults (K.state out.old).faults (K.state out.new).faults }
@@ -79,9 +78,11 @@ fn add_devices<D: Device, K: Sink>(
     requires dev { IsAttached (D.state dev.old) }
     requires open { (K.state printer.old.out.now).access ≡ 1 }
     ensures same_reference { printer.new.out.ghost_name ≡ printer.old.out.ghost_name }
-    ensures prints { PrintsSome (D.state dev.old).held (λ image. tallied_rows exclusive.now (super_rows image s.now)) result (printing K.state printer.old) (printing K.state printer.new) }
+    ensures prints { PrintsSome (D.state dev.old).held (λ image.
+        tallied_rows exclusive.now (super_rows image s.now)) result (printing K.state printer.old) (printing K.state printer.new) }
     ensures kept { OnlyReads (D.state dev.old) (D.state dev.new) }
-    ensures faults { QueryEnds result (D.state dev.old).faults (D.state dev.new).faults (K.state printer.old.out.now).faults (K.state printer.new.out.now).faults }
+    ensures faults { QueryEnds result (D.state dev.old).faults
+        (D.state dev.new).faults (K.state printer.old.out.now).faults (K.state printer.new.out.now).faults }
 {
     let mut devices = ThinDevices::start(alloc, s)?;
     add_rows(&mut devices, exclusive, dev, printer)
@@ -97,9 +98,11 @@ fn add_rows<D: Device, K: Sink>(
     requires dev { IsAttached (D.state dev.old) }
     requires open { (K.state printer.old.out.now).access ≡ 1 }
     ensures same_reference { printer.new.out.ghost_name ≡ printer.old.out.ghost_name }
-    ensures prints { PrintsSome (D.state dev.old).held (λ image. tallied_rows exclusive.now (rows_left image devices.old)) result (printing K.state printer.old) (printing K.state printer.new) }
+    ensures prints { PrintsSome (D.state dev.old).held (λ image.
+        tallied_rows exclusive.now (rows_left image devices.old)) result (printing K.state printer.old) (printing K.state printer.new) }
     ensures kept { OnlyReads (D.state dev.old) (D.state dev.new) }
-    ensures faults { QueryEnds result (D.state dev.old).faults (D.state dev.new).faults (K.state printer.old.out.now).faults (K.state printer.new.out.now).faults }
+    ensures faults { QueryEnds result (D.state dev.old).faults
+        (D.state dev.new).faults (K.state printer.old.out.now).faults (K.state printer.new.out.now).faults }
 {
     let mut left = exclusive;
     loop {
@@ -182,9 +185,9 @@ impl Query for DeviceList {
     ghost use Rattle.pd_kinds.specs.declared.kind.Stage.TheVariants.{Whole};
     ghost use Rattle.pd_kinds.specs.Graph.{block_at};
     ghost use Rattle.pd_kinds.specs.Meaning.{thin_meaning};
-    ghost use Rattle.pd_kinds.specs.ThinSuper.{thin_fields};
+    ghost use Rattle.pd_kinds.specs.ThinFormat.{thin_fields};
     ghost use Rattle.pd_answers.specs.QueryLines.{device_list_lines};
-    ghost use Rattle.pd_query.specs.Sound.{IfSound};
+    ghost use Rattle.pd_query.specs.Query.{IfSound};
 
     type Started = ThinSuper;
 

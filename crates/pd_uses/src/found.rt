@@ -1,11 +1,9 @@
-//! What is known of a pool's metadata blocks, and the leaves in which a region has mappings.
+//! What is known of a pool's metadata blocks, and the leaves in which a region has mappings (`thin_rmap`).
 
 ghost use Rattle.std.specs.Prelude.{◌≡◌, ◌++◌, map, OnOk};
 ghost use Rattle.pd_uses.specs.Hits.{use_of};
 
-use crate::data_use::DataUse;
-use crate::hits::{Hit, LeafHits, Region};
-use crate::parts::{hits_of, number_of_hits, parts_of};
+use crate::hits::{DataUse, Hit, LeafHits, Region, hits_of, number_of_hits, parts_of};
 use std::alloc::{AllocError, Global};
 
 /// How many lines come for each sample of their blocks: a prime, so that devices with the same mappings give other blocks.
@@ -13,7 +11,7 @@ const SAMPLE_LINES: usize = 16411;
 
 /// What is known of a metadata block as a node of the devices' trees.
 #[derive(Clone, Copy, Debug, PartialEq, Eq)]
-pub(crate) enum Note {
+pub(crate) enum HitNote {
     /// Nothing.
     Unknown,
     /// No mapping below it leads to the region, as far as so many inner edges go.
@@ -36,7 +34,7 @@ pub(crate) struct Visit {
 /// It takes 8 bytes a metadata block, 40 a leaf, 16 a mapping, and 16 for each time that a device has such a leaf.
 #[derive(Drop)]
 pub(crate) struct Found {
-    notes: Vec<Note>,
+    notes: Vec<HitNote>,
     leaves: Vec<LeafHits>,
     /// In the order of the devices, and of each device's leaves.
     visits: Vec<Visit>,
@@ -44,9 +42,9 @@ pub(crate) struct Found {
 
 impl Found {
     ghost use Rattle.std.specs.Prelude.{◌≡◌, ℕ, [], filter, IfOk, OnOk};
-    ghost use Rattle.pd_uses.specs.declared.found.Note.TheVariants as note;
+    ghost use Rattle.pd_uses.specs.declared.found.HitNote.TheVariants as note;
     ghost use Rattle.pd_uses.specs.FoundUses.{found_uses, note_at, Closes, HasLeaf, HasNote, HasVisit};
-    ghost use Rattle.pd_uses.specs.Ordered.{is_within};
+    ghost use Rattle.pd_uses.specs.Uses.{is_within};
 
     /// Nothing is known of so many blocks, and no leaf was found. Want of memory is the only error.
     pub(crate) fn new(alloc: Global, blocks: u64) -> Result<Found, AllocError>
@@ -54,7 +52,7 @@ impl Found {
         ensures visits { IfOk result (λ found. found.visits.items ≡ []) }
     {
         let mut notes = Vec::new(alloc);
-        notes.resize(blocks as usize, Note::Unknown)?;
+        notes.resize(blocks as usize, HitNote::Unknown)?;
         Ok(Found {
             notes,
             leaves: Vec::new(alloc),
@@ -63,17 +61,17 @@ impl Found {
     }
 
     /// What is known of a block.
-    pub(crate) fn note(&self, b: u64) -> Note
+    pub(crate) fn note(&self, b: u64) -> HitNote
         ensures { result ≡ note_at self.now.notes.items b }
     {
         match self.notes.get(b as usize) {
             Some(note) => *note,
-            None => Note::Unknown,
+            None => HitNote::Unknown,
         }
     }
 
     /// This is known of a block from now on, if it is one of those that have notes.
-    pub(crate) fn set_note(&mut self, b: u64, note: Note)
+    pub(crate) fn set_note(&mut self, b: u64, note: HitNote)
         ensures { HasNote b note self.old self.new }
     {
         let place = b as usize;
@@ -87,7 +85,7 @@ impl Found {
         ensures { Closes b edges some self.old self.new }
     {
         if !some {
-            self.set_note(b, Note::Bare(edges));
+            self.set_note(b, HitNote::Bare(edges));
         }
     }
 

@@ -1,30 +1,28 @@
-//! The reverse map of a pool: which virtual blocks use the data blocks of a region.
+//! The reverse map of a pool: which virtual blocks use the data blocks of a region (`thin_rmap`).
 
-ghost use Rattle.std.specs.Prelude.{◌≡◌, ◌≤◌, OnOk};
+ghost use Rattle.std.specs.Prelude.{◌≡◌, ◌≤◌, OnOk, ℕ, ◌+◌, ◌<◌, IfOk};
+ghost use Rattle.std.specs.List.{All, flat_map, range_with_len};
 ghost use Rattle.pd_kinds.specs.Objects.{Appends, AppendsFront};
+ghost use Rattle.pd_answers.specs.QueryLines.{rmap_lines};
 ghost use Rattle.pd_image.specs.Device.{IsAttached, OnlyReads};
 ghost use Rattle.pd_image.specs.Sink.{KeepsSink};
 ghost use Rattle.pd_lines.specs.Printer.{printing};
 ghost use Rattle.pd_lines.specs.Printing.{Prints};
-ghost use Rattle.pd_answers.specs.QueryLines.{rmap_lines};
-ghost use Rattle.pd_query.specs.Failing.{QueryEnds, SinkFails};
+ghost use Rattle.pd_query.specs.Query.{QueryEnds, SinkFails};
 ghost use Rattle.pd_uses.specs.FoundUses.{found_uses};
-ghost use Rattle.pd_uses.specs.Ordered.{ordered_uses};
-ghost use Rattle.pd_uses.specs.UseLines.{PutFails, PutsLines, use_line, uses_text};
+ghost use Rattle.pd_uses.specs.Uses.{ordered_uses, PutFails, PutsLines, use_line, uses_text, uses_of_block};
+ghost use Rattle.pd_uses.specs.declared.hits.DataUse.{DataUse as OneUse};
 
-use crate::data_use::DataUse;
+use crate::asking::{add_labeled, super_to_ask};
 use crate::descent::find_region;
 use crate::found::Found;
-use crate::hits::Region;
-use crate::lines::add_labeled;
-use crate::region::region_uses;
-use crate::walk::super_to_ask;
+use crate::hits::{DataUse, Region};
 use pd_image::{Device, Sink};
 use pd_kinds::ThinSuper;
 use pd_lines::{PieceBuffer, Printer, TextLine};
+use pd_meaning_thin::rows_are_the_devices;
 use pd_query::{Query, QueryFault, finish, print_text_line};
-use pd_thin_meaning::rows_are_the_devices;
-use std::alloc::Global;
+use std::alloc::{AllocError, Global};
 
 /// Puts a line for each mapping to a data block from `first` on and below `end`, of the pool with this superblock:
 /// ordered by data block, then by the number of the thin device, then by virtual block. Each leaf of mappings is read once,
@@ -44,7 +42,8 @@ pub fn rmap<D: Device, K: Sink>(
 ) -> Result<(), QueryFault>
     requires dev { IsAttached (D.state dev.old) }
     requires out { (K.state out.old).access ≡ 1 }
-    ensures lines { PutsLines (rmap_lines first end) s.now result (D.state dev.old).held (K.state out.old).written (K.state out.new).written }
+    ensures lines { PutsLines (rmap_lines first end) s.now result
+        (D.state dev.old).held (K.state out.old).written (K.state out.new).written }
     ensures kept { OnlyReads (D.state dev.old) (D.state dev.new) }
     ensures sink { KeepsSink (K.state out.old) (K.state out.new) }
     ensures faults { QueryEnds result (D.state dev.old).faults (D.state dev.new).faults (K.state out.old).faults (K.state out.new).faults }
@@ -63,8 +62,10 @@ fn put_region<K: Sink>(
     out: &mut K,
 ) -> Result<(), QueryFault>
     requires { (K.state out.old).access ≡ 1 }
-    ensures whole { OnOk result (Appends (uses_text (ordered_uses region.first region.end (found_uses found.now))) (K.state out.old).written (K.state out.new).written) }
-    ensures front { AppendsFront (uses_text (ordered_uses region.first region.end (found_uses found.now))) (K.state out.old).written (K.state out.new).written }
+    ensures whole { OnOk result (Appends (uses_text (ordered_uses region.first region.end (found_uses found.now)))
+        (K.state out.old).written (K.state out.new).written) }
+    ensures front { AppendsFront (uses_text (ordered_uses region.first region.end (found_uses found.now)))
+        (K.state out.old).written (K.state out.new).written }
     ensures sink { KeepsSink (K.state out.old) (K.state out.new) }
     ensures faults { PutFails result (K.state out.old).faults (K.state out.new).faults }
 {
@@ -85,7 +86,8 @@ fn add_parts<K: Sink>(
 ) -> Result<(), QueryFault>
     requires { (K.state printer.old.out.now).access ≡ 1 }
     ensures same_reference { printer.new.out.ghost_name ≡ printer.old.out.ghost_name }
-    ensures prints { Prints (uses_text (ordered_uses region.first region.end (found_uses found.now))) result (printing K.state printer.old) (printing K.state printer.new) }
+    ensures prints { Prints (uses_text (ordered_uses region.first region.end (found_uses found.now))) result (printing K.state printer.old)
+        (printing K.state printer.new) }
     ensures faults { PutFails result (K.state printer.old.out.now).faults (K.state printer.new.out.now).faults }
 {
     let last = region.end.max(region.first);
@@ -117,7 +119,8 @@ fn add_part<K: Sink>(
 ) -> Result<(), QueryFault>
     requires { (K.state printer.old.out.now).access ≡ 1 }
     ensures same_reference { printer.new.out.ghost_name ≡ printer.old.out.ghost_name }
-    ensures prints { Prints (uses_text (ordered_uses region.first region.end (found_uses found.now))) result (printing K.state printer.old) (printing K.state printer.new) }
+    ensures prints { Prints (uses_text (ordered_uses region.first region.end (found_uses found.now))) result (printing K.state printer.old)
+        (printing K.state printer.new) }
     ensures faults { PutFails result (K.state printer.old.out.now).faults (K.state printer.new.out.now).faults }
 {
     let uses = region_uses(alloc, found, region)?;
@@ -161,9 +164,9 @@ impl Query for ReverseMap {
     ghost use Rattle.pd_kinds.specs.declared.kind.Stage.TheVariants.{Whole};
     ghost use Rattle.pd_kinds.specs.Graph.{block_at};
     ghost use Rattle.pd_kinds.specs.Meaning.{thin_meaning};
-    ghost use Rattle.pd_kinds.specs.ThinSuper.{thin_fields};
+    ghost use Rattle.pd_kinds.specs.ThinFormat.{thin_fields};
     ghost use Rattle.pd_answers.specs.QueryLines.{rmap_lines};
-    ghost use Rattle.pd_query.specs.Sound.{IfSound};
+    ghost use Rattle.pd_query.specs.Query.{IfSound};
 
     type Started = ThinSuper;
 
@@ -188,4 +191,28 @@ impl Query for ReverseMap {
     ) -> Result<(), QueryFault> {
         rmap(alloc, dev, &started, self.first, self.end, out)
     }
+}
+
+// The uses of the data blocks of a region, in their order (`thin_rmap`).
+
+/// The uses of the blocks of a region, ordered by block. The uses of one block are in the order of the devices, and those by
+/// one device in the order of its virtual blocks. Want of memory is the only error.
+pub(crate) fn region_uses(
+    alloc: Global,
+    found: &Found,
+    region: Region,
+) -> Result<Vec<DataUse>, AllocError>
+    ensures { IfOk result (λ uses. uses.items ≡ ordered_uses region.first region.end (found_uses found.now)) }
+{
+    let mut uses = found.uses_in(alloc, region)?;
+    sort_by_block(&mut uses)?;
+    Ok(uses)
+}
+
+/// Orders uses by their data blocks; those of one block stay in their order.
+fn sort_by_block(uses: &mut Vec<DataUse>) -> Result<(), AllocError>
+    ensures { OnOk result ((first n : ℕ) → All (λ (one : OneUse). (first ≤ one.block) × (one.block < first + n)) uses.old.items
+        → uses.new.items ≡ flat_map (uses_of_block uses.old.items) (range_with_len first n)) }
+{
+    uses.sort_by_key(|one| one.block)
 }

@@ -1,9 +1,7 @@
 -- Values of several fields: written field by field, and read field by field.
 use Rattle.std.proofs.Common.{◌≡◌, ℕ, ◌+◌, ◌*◌, ◌^◌, ◌<◌, List, refl, sym, ◌∙◌}
-use Rattle.pd_kinds.specs.Field.{le, put}
-use Rattle.pd_kinds.specs.Value.{details_code, index_code, writeset_code}
-use Rattle.pd_kinds.proofs.FieldLemmas.{le_join}
-use Rattle.pd_kinds.proofs.PutsLemmas.{put_parts}
+use Rattle.pd_kinds.specs.Field.{le, put, details_code, index_code, writeset_code}
+use Rattle.pd_kinds.proofs.FieldLemmas.{le_join, put_parts}
 
 pub details_written : (b : List ℕ) (mapped transaction created snapped : ℕ) → mapped < 2 ^ 64 → transaction < 2 ^ 64 → created < 2 ^ 32
     → put (put (put (put b 0 8 mapped) 8 8 transaction) 16 4 created) 20 4 snapped ≡ put b 0 24 (details_code mapped transaction created snapped)

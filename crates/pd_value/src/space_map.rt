@@ -2,7 +2,7 @@
 
 ghost use Rattle.std.specs.Prelude.{◌/◌, ◌%◌, ◌^◌, ◌&&◌, nat_lt};
 ghost use Rattle.std.proofs.Common.{rules};
-ghost use Rattle.pd_kinds.specs.Value.{index_code};
+ghost use Rattle.pd_kinds.specs.Field.{index_code};
 
 use crate::value::Value;
 use pd_kinds::{put_u32, put_u64, u32_at, u64_at};

@@ -2,7 +2,7 @@
 
 ghost use Rattle.std.specs.Prelude.{◌*◌, ◌/◌, ◌%◌, ◌^◌, ◌&&◌, nat_lt};
 ghost use Rattle.std.proofs.Common.{rules};
-ghost use Rattle.pd_kinds.specs.Value.{mapping_code, details_code};
+ghost use Rattle.pd_kinds.specs.Field.{mapping_code, details_code};
 
 use crate::value::Value;
 use pd_kinds::{put_u32, put_u64, u32_at, u64_at};
@@ -116,7 +116,8 @@ impl Value for Details {
 
     ghost SIZE = { 24 };
 
-    ghost fitting = { λ d. nat_lt d.mapped (2 ^ 64) && (nat_lt d.transaction (2 ^ 64) && (nat_lt d.created (2 ^ 32) && nat_lt d.snapped (2 ^ 32))) };
+    ghost fitting = { λ d. nat_lt d.mapped (2 ^ 64)
+        && (nat_lt d.transaction (2 ^ 64) && (nat_lt d.created (2 ^ 32) && nat_lt d.snapped (2 ^ 32))) };
 
     ghost code = { λ d. details_code d.mapped d.transaction d.created d.snapped };
 

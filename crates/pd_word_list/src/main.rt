@@ -1,7 +1,8 @@
 //! Prints what can be given to each tool, a line a form of it, for the scripts that keep lists of words.
 #![tactic(auto)]
 
-use pd_words::{IMAGE, Need, TOOLS, ToolWords, Value, Word};
+use pd_answers::{Need, Value};
+use pd_words::{IMAGE, NamedWord, TOOLS, ToolForm};
 use std::io;
 
 fn main(rt: HostRuntime) -> io::Result<()> {
@@ -12,7 +13,7 @@ fn main(rt: HostRuntime) -> io::Result<()> {
 }
 
 /// Puts the name of a tool and the words of a form of it. What may be left out stands in brackets.
-fn put_tool(rt: &impl Print, row: &ToolWords) -> io::Result<()> {
+fn put_tool(rt: &impl Print, row: &ToolForm) -> io::Result<()> {
     print!(rt; "{}", row.name)?;
     for word in row.words {
         print!(rt; " ")?;
@@ -22,7 +23,7 @@ fn put_tool(rt: &impl Print, row: &ToolWords) -> io::Result<()> {
 }
 
 /// Puts a word with what its value is.
-fn put_word(rt: &impl Print, word: &Word) -> io::Result<()> {
+fn put_word(rt: &impl Print, word: &NamedWord) -> io::Result<()> {
     if word.name == IMAGE.name {
         return print!(rt; "DEVICE");
     }

@@ -1,11 +1,16 @@
 -- The items of words, from an index on.
-use Rattle.std.proofs.Common.{◌≡◌, ℕ, zero, suc, ◌+◌, ◌<◌, ◌≤◌, Bool, true, false, List, [], ◌∷◌, length, get_or, map, drop, Option, Some, None, IfSome, is_some, refl, ap, sym, ◌∙◌, arith, if◌then◌else◌}
+use Rattle.std.proofs.Common.{◌≡◌, ℕ, zero, suc, ◌+◌, ◌<◌, ◌≤◌, Bool, true, false, List, [], ◌∷◌, length, get_or, map, drop, Option, Some, None, IfSome, is_some, refl, ap, sym, ◌∙◌, arith, if◌then◌else◌, inl, inr, ◌==◌}
 use Rattle.std.specs.Str.{bytes_eq}
-use Rattle.std.specs.Option.{option_map}
+use Rattle.std.specs.Option.{option_map, option_and_then, unwrap_or}
 use Rattle.std.proofs.lemmas.Option.{same_Some}
 use Rattle.std.proofs.lemmas.List.{drop_more, drop_all}
-use Rattle.pd_answers.specs.Words.{is_value, is_flag, Item, more, items_of, never, once, often, given, given_of, known}
-use Rattle.pd_answers.specs.Tools.{Word, image_word}
+use Rattle.std.specs.List.{list_all}
+use Rattle.std.proofs.lemmas.Bool.{cases_Bool, true≢false}
+use Rattle.std.proofs.Math.Dec.{eqb-suc-zero}
+use Rattle.pd_answers.specs.Words.{is_value, is_flag, Item, more, items_of, never, once, often, given, given_of, known, tool_of, request_of, is_known, asked, meant_if_any}
+use Rattle.pd_answers.specs.Tools.{Word, image_word, ToolWords}
+use Rattle.pd_answers.specs.declared.tool.Value.TheVariants.{File}
+use Rattle.pd_answers.specs.Requests.{Request}
 use Rattle.pd_words.specs.Items.{AreItems, items_in, values_in, values_from}
 
 -- the word of an element
@@ -35,12 +40,12 @@ items-option word next words e flag = simp (e, flag)
 
 module _ (words : List (List ℕ)) (i : ℕ) (less : i < length words) (word : List ℕ) (is : get_or words i [] ≡ word) where
   -- the word here is the operand
-  pub operand_at : is_value word ≡ true → items_of (drop i words) ≡ more image_word.name (get_or words i []) (items_of (drop (i + 1) words))
-  operand_at e = rw (drop_more words i [] less) (items-operand (get_or words i []) (drop (i + 1) words) (rw is e))
+  pub operand_at : is_value word ≡ true → items_of (drop i words) ≡ more image_word.name word (items_of (drop (i + 1) words))
+  operand_at e = rw (drop_more words i [] less, is) (items-operand word (drop (i + 1) words) e)
 
   -- a flag's
   pub flag_at : is_value word ≡ false → is_flag word ≡ true
-      → items_of (drop i words) ≡ more word (get_or words i []) (items_of (drop (i + 1) words))
+      → items_of (drop i words) ≡ more word word (items_of (drop (i + 1) words))
   flag_at e flag = rw (drop_more words i [] less, is) (items-flag word (drop (i + 1) words) e flag)
 
   -- an option's, with no word behind it
@@ -48,12 +53,12 @@ module _ (words : List (List ℕ)) (i : ℕ) (less : i < length words) (word : L
   last_at e flag end = rw (drop_more words i [] less, drop_all (i + 1) words end, is) (items-last word e flag)
 
   -- an option's, with another word behind it
-  pub option_at : is_value word ≡ false → is_flag word ≡ false → i + 1 < length words → (b : Bool) → is_value (get_or words (i + 1) []) ≡ b
-      → items_of (drop i words) ≡ (if b then more word (get_or words (i + 1) []) (items_of (drop (i + 2) words)) else None)
-  option_at e flag some b value =
+  pub option_at : is_value word ≡ false → is_flag word ≡ false → i + 1 < length words → (next : List ℕ) → get_or words (i + 1) [] ≡ next
+      → (b : Bool) → is_value next ≡ b → items_of (drop i words) ≡ (if b then more word next (items_of (drop (i + 2) words)) else None)
+  option_at e flag some next follows b value =
       let two : i + 1 + 1 ≡ i + 2 = omega arith in
-      rw (drop_more words i [] less, drop_more words (i + 1) [] some, is, ← value, two)
-      (items-option word (get_or words (i + 1) []) (drop (i + 2) words) e flag)
+      rw (drop_more words i [] less, drop_more words (i + 1) [] some, is, follows, ← value, two)
+      (items-option word next (drop (i + 2) words) e flag)
 
 -- what is known at the end of the words
 pub known_end : (table : List Word) (words : List (List ℕ)) (i : ℕ) → length words ≤ i → true ≡ is_some (known table (items_of (drop i words)))
@@ -115,3 +120,54 @@ module _ (purpose : List ℕ) (words : List (List ℕ)) (are : AreItems words) w
       some : {X : Type 0} {x : X} → Some x ≡ None → ⊥
       some e = cc
   given_often value other more_values (Some rest) first second = given_is (value ∷ other ∷ rest) (first ∙ ap (option_map (λ (vs : List (List ℕ)). value ∷ vs)) second)
+
+-- What is asked, by the tool and its items.
+
+pub asked_nothing : {X : Type 0} (f : X → List ℕ) (xs : List X) → (length xs == 0) ≡ true → None ≡ asked (map f xs)
+unfolding asked
+asked_nothing f [] none = refl
+asked_nothing f (x ∷ xs) none = absurd (true≢false (sym none ∙ eqb-suc-zero (length xs)))
+
+-- what is asked of a tool with these items
+abbrev pub asked_of : Option ToolWords → Option (List Item) → Option Request
+asked_of tool items = option_and_then (λ (row : ToolWords). option_and_then (request_of row.tool) (known row.words items)) tool
+
+pub asked_first : {X : Type 0} (f : X → List ℕ) (xs : List X) (x : X) (word : List ℕ) → (length xs == 0) ≡ false → x ≡ get_or xs 0 x → word ≡ f x
+    → asked (map f xs) ≡ asked_of (tool_of word (items_of (drop 1 (map f xs)))) (items_of (drop 1 (map f xs)))
+unfolding asked
+asked_first f [] x word some at is = absurd (true≢false some)
+asked_first f (y ∷ ys) x word some at is =
+    let same : word ≡ f y = is ∙ ap f at in rw same refl
+
+-- items that are known are items
+pub known_are_items : (list : List Word) (words : List (List ℕ)) → is_some (known list (items_of (drop 1 words))) ≡ true → AreItems words
+unfolding items_in
+known_are_items list words some = go (items_of (drop 1 words)) some
+  where
+    go : (items : Option (List Item)) → is_some (known list items) ≡ true → items ≡ Some (unwrap_or items [])
+    go None some = absurd (true≢false (sym some))
+    go (Some items) some = refl
+
+-- the items can be given to the tool
+pub all_known : (found : Option ToolWords) (row : ToolWords) (words : List (List ℕ)) (request : Option Request) → found ≡ Some row
+    → is_some (known row.words (items_of (drop 1 words))) ≡ true → request ≡ request_of row.tool (items_in words)
+    → request ≡ asked_of found (items_of (drop 1 words))
+all_known found row words request same some is =
+    let are = known_are_items row.words words some in
+    elim (cases_Bool (list_all (is_known row.words) (items_in words))) [
+      | inl e ↦ rw (same, are, e) is
+      | inr e ↦ absurd (true≢false (sym (rw (are, e) at some)))
+    ]
+
+-- they can't
+pub not_known : (found : Option ToolWords) (row : ToolWords) (items : Option (List Item)) → found ≡ Some row → is_some (known row.words items) ≡ false → None ≡ asked_of found items
+not_known found row None same none = rw same refl
+not_known found row (Some items) same none = elim (cases_Bool (list_all (is_known row.words) items)) [
+  | inl e ↦ absurd (true≢false (rw e at none))
+  | inr e ↦ rw (same, e) refl
+]
+
+-- the name of a file is the word itself
+pub file_as_given : (o : Option (List ℕ)) → meant_if_any File o ≡ Some o
+file_as_given None = refl
+file_as_given (Some word) = refl

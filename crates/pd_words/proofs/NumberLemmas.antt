@@ -10,7 +10,7 @@ use Rattle.std.proofs.lemmas.Bool.Decides.{nat_tests}
 use Rattle.std.proofs.lemmas.Fmt.{decimal_is_IsNumeral, parse-decimal}
 use Rattle.std.proofs.lemmas.Slice.Eq.{bytes_eq-Decides}
 use Rattle.pd_answers.specs.Words.{Region, behind_points, number_below, region_of}
-use Rattle.pd_words.specs.Numbers.{region_from}
+use Rattle.pd_words.specs.Items.{region_from}
 
 -- a word that is what a number prints as
 pub printed : (n : ℕ) (word : List ℕ) → n < 2 ^ 64 → word ≡ decimal n → number_below (2 ^ 64) word ≡ Some n

@@ -1,4 +1,3 @@
-pub mod Table
 pub mod Items
+pub mod Table
 pub mod Words
-pub mod Numbers

@@ -1,20 +1,20 @@
 //! The items of a command line: options with their values, flags, and the operand.
 
 ghost use Rattle.std.specs.Prelude.{◌≡◌, ◌<◌, length, map, drop, string_bytes, IfSome, is_some};
-ghost use Rattle.pd_answers.specs.Words.{is_value, items_of, given, known};
-ghost use Rattle.pd_words.specs.Items.{with_item, IsItemWithin, items_in, values_from, with_found, given_as, AreItems, IsGivenWithin};
-ghost use Rattle.pd_words.specs.Table.{word_as};
+ghost use Rattle.std.specs.Option.{option_map};
+ghost use Rattle.pd_answers.specs.Words.{is_value, items_of, given, known, takes, tool_in, tool_of};
+ghost use Rattle.pd_words.specs.Items.{with_item, IsItemWithin, items_in, values_from, with_found, given_as, AreItems};
+ghost use Rattle.pd_words.specs.Table.{word_as, row_as};
 
-use crate::request::Name;
-use crate::table::{IMAGE, Word, has_word, is_flag};
+use crate::table::{IMAGE, NamedWord, TOOLS, ToolForm, has_word, is_flag};
 
 /// How often something was given.
 #[derive(Clone, Copy)]
-pub enum Given {
+pub enum Given<'a> {
     /// It wasn't given.
     Never,
     /// It was given once, by this word.
-    Once(Name),
+    Once(&'a str),
     /// It was given more than once.
     Often,
 }
@@ -25,16 +25,16 @@ pub enum Given {
 pub struct Item<'a> {
     /// What it was given for.
     pub purpose: &'a str,
-    /// The index of the word.
-    pub value: usize,
+    /// The word.
+    pub value: &'a str,
     /// The index of the word after the item.
     pub next: usize,
 }
 
-/// Where a word stands that was given, and the index of the word after its item.
+/// A word that was given, and the index of the word after its item.
 #[derive(Clone, Copy)]
-struct WordPlace {
-    value: usize,
+struct FoundWord<'a> {
+    value: &'a str,
     next: usize,
 }
 
@@ -58,32 +58,33 @@ pub fn item_at(words: &[String], at: usize) -> Option<Item<'_>>
     if is_operand(word) {
         return Some(Item {
             purpose: IMAGE.name,
-            value: at,
+            value: word,
             next: at + 1,
         });
     }
     if is_flag(word) {
         return Some(Item {
             purpose: word,
-            value: at,
+            value: word,
             next: at + 1,
         });
     }
     if at + 1 >= words.len() {
         return None;
     }
-    if !is_operand(words[at + 1].as_str()) {
+    let value = words[at + 1].as_str();
+    if !is_operand(value) {
         return None;
     }
     Some(Item {
         purpose: word,
-        value: at + 1,
+        value,
         next: at + 2,
     })
 }
 
 /// Whether the words from this one on are items that are given for the table's words.
-pub fn are_items_of(table: &[Word], words: &[String], begin: usize) -> bool
+pub fn are_items_of(table: &[NamedWord], words: &[String], begin: usize) -> bool
     ensures { result ≡ is_some (known (map word_as table.now) (items_of (drop begin (map string_bytes words.now)))) }
 {
     let mut at = begin;
@@ -102,9 +103,8 @@ pub fn are_items_of(table: &[Word], words: &[String], begin: usize) -> bool
 }
 
 /// The first word from this one on that is given for this.
-fn found_from(words: &[String], begin: usize, purpose: &str) -> Option<WordPlace>
-    ensures found { with_found (map string_bytes words.now) purpose.now (values_from (map string_bytes words.now) purpose.now begin) result }
-    ensures within { IfSome result (λ place. place.value < length words.now) }
+fn found_from<'a>(words: &'a [String], begin: usize, purpose: &str) -> Option<FoundWord<'a>>
+    ensures { with_found (map string_bytes words.now) purpose.now (values_from (map string_bytes words.now) purpose.now begin) result }
 {
     let mut at = begin;
     while at < words.len() {
@@ -112,7 +112,7 @@ fn found_from(words: &[String], begin: usize, purpose: &str) -> Option<WordPlace
             None => return None,
             Some(item) => {
                 if item.purpose == purpose {
-                    return Some(WordPlace {
+                    return Some(FoundWord {
                         value: item.value,
                         next: item.next,
                     });
@@ -125,16 +125,47 @@ fn found_from(words: &[String], begin: usize, purpose: &str) -> Option<WordPlace
 }
 
 /// How often the words after the tool's name give something for an option or a flag, or for the operand.
-pub fn given_for(words: &[String], purpose: &str) -> Given
+pub fn given_for<'a>(words: &'a [String], purpose: &str) -> Given<'a>
     requires { AreItems (map string_bytes words.now) }
-    ensures given { given_as (map string_bytes words.now) result ≡ given purpose.now (items_in (map string_bytes words.now)) }
-    ensures within { IsGivenWithin (length words.now) result }
+    ensures { given_as result ≡ given purpose.now (items_in (map string_bytes words.now)) }
 {
     match found_from(words, 1, purpose) {
         None => Given::Never,
         Some(first) => match found_from(words, first.next, purpose) {
-            None => Given::Once(Name(first.value)),
+            None => Given::Once(first.value),
             Some(_) => Given::Often,
         },
     }
+}
+
+// The form of a tool that takes the words of a command line.
+
+/// Whether a form has this name, and the words after it are given for its words.
+fn takes(row: &ToolForm, words: &[String], name: &str) -> bool
+    ensures { result ≡ takes name.now (items_of (drop 1 (map string_bytes words.now))) (row_as row.now) }
+{
+    if name == row.name {
+        are_items_of(row.words, words, 1)
+    } else {
+        false
+    }
+}
+
+/// The first of the forms that has this name and takes the words after it.
+fn row_named(rows: &[ToolForm], words: &[String], name: &str) -> Option<ToolForm>
+    ensures { option_map row_as result ≡ tool_in (map row_as rows.now) name.now (items_of (drop 1 (map string_bytes words.now))) }
+{
+    for row in rows {
+        if takes(row, words, name) {
+            return Some(*row);
+        }
+    }
+    None
+}
+
+/// The form of the tool of this name that takes the words after it.
+pub(crate) fn tool_named(words: &[String], name: &str) -> Option<ToolForm>
+    ensures { option_map row_as result ≡ tool_of name.now (items_of (drop 1 (map string_bytes words.now))) }
+{
+    row_named(&TOOLS, words, name)
 }

@@ -1,245 +1,166 @@
-//! The tools, and the words that can be given to each.
+//! The table of the tools, and of the words that can be given to each.
 
 ghost use Rattle.std.specs.Prelude.{◌≡◌, map};
 ghost use Rattle.std.specs.List.{list_any};
 ghost use Rattle.pd_answers.specs.Words.{is_flag, is_named, is_named_flag, is_flag_need};
-ghost use Rattle.pd_words.specs.Table.{has_flag, need_as, row_as, word_as};
+ghost use Rattle.pd_words.specs.Table.{has_flag, row_as, word_as};
 
+use pd_answers::{Need, Tool, ToolWords, Value, Word};
 use pd_kinds::Kind;
 
-/// The tools.
-#[derive(Clone, Copy)]
-pub enum Tool {
-    /// thin_check, cache_check, era_check
-    Check(Kind),
-    /// thin_dump, cache_dump, era_dump
-    Dump(Kind),
-    /// thin_restore, cache_restore, era_restore
-    Restore(Kind),
-    /// thin_repair
-    Repair,
-    /// thin_repair without a superblock
-    Search,
-    /// thin_repair from named roots
-    NamedRepair,
-    /// thin_repair --dry-run
-    DryRepair,
-    /// thin_repair --dry-run without a superblock
-    DrySearch,
-    /// thin_repair --dry-run from named roots
-    DryNamed,
-    /// cache_repair
-    RepairCache,
-    /// thin_rmap
-    ReverseMap,
-    /// thin_ls
-    DeviceList,
-    /// era_invalidate
-    Since,
-    /// thin_generate
-    Generate,
-    /// thin_rehearse
-    Rehearse,
-    /// cache_writeback
-    Writeback,
-    /// thin_shrink
-    Shrink,
-}
-
-/// What the value of a word is.
-#[derive(Clone, Copy)]
-pub enum Value {
-    /// The name of a file.
-    File,
-    /// The name of a device, or of a file in its place.
-    Device,
-    /// The last stage of a check.
-    Stage,
-    /// A version of a cache's metadata.
-    Version,
-    /// Two numbers of data blocks.
-    Region,
-    /// A number up to this one.
-    UpTo(u64),
-    /// A number of the generator, from 1 to 10000.
-    Generated,
-}
-
-/// How a word can be given.
-#[derive(Clone, Copy)]
-pub enum Need {
-    /// Once or not at all, without a value.
-    Flag,
-    /// Once, without a value.
-    Mark,
-    /// Once, with a value.
-    Wanted(Value),
-    /// Once or not at all, with a value.
-    Optional(Value),
-}
-
 /// A word that can be given, by its name.
-#[derive(Clone, Copy)]
-pub struct Word {
-    pub name: &'static str,
-    pub need: Need,
-}
+pub type NamedWord = Word<&'static str>;
 
-/// A form of a tool: the tool's name, and what can be given to it.
-#[derive(Clone, Copy)]
-pub struct ToolWords {
-    pub name: &'static str,
-    pub tool: Tool,
-    pub words: &'static [Word],
-}
+/// A form of a tool.
+pub type ToolForm = ToolWords<&'static str, &'static [NamedWord]>;
 
 /// The operand, which has no option's word before it.
-pub const IMAGE: Word = Word {
+pub const IMAGE: NamedWord = Word {
     name: "IMAGE",
     need: Need::Wanted(Value::Device),
 };
 
 /// The last stage of a check.
-pub(crate) const UNTIL: Word = Word {
+pub(crate) const UNTIL: NamedWord = Word {
     name: "--until",
     need: Need::Optional(Value::Stage),
 };
 
 /// Whether leaks pass.
-pub(crate) const PASSING: Word = Word {
+pub(crate) const PASSING: NamedWord = Word {
     name: "--ignore-non-fatal-errors",
     need: Need::Flag,
 };
 
 /// Whether the flag "needs check" is cleared.
-pub(crate) const CLEAR: Word = Word {
+pub(crate) const CLEAR: NamedWord = Word {
     name: "--clear-needs-check-flag",
     need: Need::Flag,
 };
 
 /// The file for what is printed.
-pub(crate) const FILE: Word = Word {
+pub(crate) const FILE: NamedWord = Word {
     name: "-o",
     need: Need::Optional(Value::File),
 };
 
 /// Whether shared leaves are told once, or kept in what is written.
-pub(crate) const SHARED: Word = Word {
+pub(crate) const SHARED: NamedWord = Word {
     name: "--shared",
     need: Need::Flag,
 };
 
 /// The data blocks of a reverse map.
-pub(crate) const REGION: Word = Word {
+pub(crate) const REGION: NamedWord = Word {
     name: "--region",
     need: Need::Wanted(Value::Region),
 };
 
 /// The first era that counts.
-pub(crate) const SINCE: Word = Word {
+pub(crate) const SINCE: NamedWord = Word {
     name: "--written-since",
     need: Need::Wanted(Value::UpTo(u32::MAX as u64)),
 };
 
 /// The text that is read.
-pub(crate) const TEXT: Word = Word {
+pub(crate) const TEXT: NamedWord = Word {
     name: "-i",
     need: Need::Wanted(Value::File),
 };
 
 /// The device that is read.
-pub(crate) const INPUT: Word = Word {
+pub(crate) const INPUT: NamedWord = Word {
     name: "-i",
     need: Need::Wanted(Value::Device),
 };
 
 /// The device that is written.
-pub(crate) const OUTPUT: Word = Word {
+pub(crate) const OUTPUT: NamedWord = Word {
     name: "-o",
     need: Need::Wanted(Value::Device),
 };
 
 /// That nothing is written, but told what would be.
-pub(crate) const DRY_RUN: Word = Word {
+pub(crate) const DRY_RUN: NamedWord = Word {
     name: "--dry-run",
     need: Need::Mark,
 };
 
 /// The version of a cache's metadata.
-pub(crate) const VERSION: Word = Word {
+pub(crate) const VERSION: NamedWord = Word {
     name: "--metadata-version",
     need: Need::Optional(Value::Version),
 };
 
 /// The number of the generator.
-pub(crate) const NUMBER: Word = Word {
+pub(crate) const NUMBER: NamedWord = Word {
     name: "--number",
     need: Need::Wanted(Value::Generated),
 };
 
 /// The transaction of a superblock that is wanting.
-pub(crate) const TRANSACTION: Word = Word {
+pub(crate) const TRANSACTION: NamedWord = Word {
     name: "--transaction-id",
     need: Need::Wanted(Value::UpTo(u64::MAX)),
 };
 
 /// Its block size in sectors.
-pub(crate) const BLOCK_SIZE: Word = Word {
+pub(crate) const BLOCK_SIZE: NamedWord = Word {
     name: "--data-block-size",
     need: Need::Wanted(Value::UpTo(u32::MAX as u64)),
 };
 
 /// Its number of data blocks.
-pub(crate) const DATA_BLOCKS: Word = Word {
+pub(crate) const DATA_BLOCKS: NamedWord = Word {
     name: "--nr-data-blocks",
     need: Need::Wanted(Value::UpTo(1 << 40)),
 };
 
 /// The root of its mapping tree.
-pub(crate) const MAPPING_ROOT: Word = Word {
+pub(crate) const MAPPING_ROOT: NamedWord = Word {
     name: "--mapping-root",
     need: Need::Wanted(Value::UpTo(u64::MAX)),
 };
 
 /// The root of its details tree.
-pub(crate) const DETAILS_ROOT: Word = Word {
+pub(crate) const DETAILS_ROOT: NamedWord = Word {
     name: "--details-root",
     need: Need::Wanted(Value::UpTo(u64::MAX)),
 };
 
 /// The metadata of a cache.
-pub(crate) const METADATA: Word = Word {
+pub(crate) const METADATA: NamedWord = Word {
     name: "--metadata-device",
     need: Need::Wanted(Value::Device),
 };
 
 /// Its fast device.
-pub(crate) const FAST: Word = Word {
+pub(crate) const FAST: NamedWord = Word {
     name: "--fast-device",
     need: Need::Wanted(Value::Device),
 };
 
 /// Its origin.
-pub(crate) const ORIGIN: Word = Word {
+pub(crate) const ORIGIN: NamedWord = Word {
     name: "--origin-device",
     need: Need::Wanted(Value::Device),
 };
 
 /// The data device of a pool.
-pub(crate) const DATA: Word = Word {
+pub(crate) const DATA: NamedWord = Word {
     name: "--data",
     need: Need::Wanted(Value::Device),
 };
 
 /// How many data blocks a pool is to have.
-pub(crate) const BLOCKS: Word = Word {
+pub(crate) const BLOCKS: NamedWord = Word {
     name: "--nr-blocks",
     need: Need::Wanted(Value::UpTo(u64::MAX)),
 };
 
 /// The forms of the tools, and what can be given to each. A tool whose name stands more than once has as many forms, and takes
 /// the first that has all words that are given.
-pub static TOOLS: [ToolWords; 23] = [
+pub static TOOLS: [ToolForm; 23] = [
     ToolWords {
         name: "thin_check",
         tool: Tool::Check(Kind::Thin),
@@ -376,7 +297,7 @@ pub static TOOLS: [ToolWords; 23] = [
 ];
 
 /// Whether one of the words has this name.
-pub(crate) fn has_word(words: &[Word], name: &str) -> bool
+pub(crate) fn has_word(words: &[NamedWord], name: &str) -> bool
     ensures { result ≡ list_any (is_named name.now) (map word_as words.now) }
 {
     for word in words {
@@ -389,7 +310,7 @@ pub(crate) fn has_word(words: &[Word], name: &str) -> bool
 
 /// Whether a word has no value.
 fn is_flag_need(need: Need) -> bool
-    ensures { result ≡ is_flag_need (need_as need) }
+    ensures { result ≡ is_flag_need need }
 {
     match need {
         Need::Flag => true,
@@ -400,7 +321,7 @@ fn is_flag_need(need: Need) -> bool
 }
 
 /// Whether one of the words is a flag of this name.
-fn has_flag(words: &[Word], name: &str) -> bool
+fn has_flag(words: &[NamedWord], name: &str) -> bool
     ensures { result ≡ list_any (is_named_flag name.now) (map word_as words.now) }
 {
     for word in words {
@@ -412,7 +333,7 @@ fn has_flag(words: &[Word], name: &str) -> bool
 }
 
 /// Whether a tool of the rows has a flag of this name.
-fn is_flag_in(rows: &[ToolWords], name: &str) -> bool
+fn is_flag_in(rows: &[ToolForm], name: &str) -> bool
     ensures { result ≡ list_any (has_flag name.now) (map row_as rows.now) }
 {
     for row in rows {

@@ -1,27 +1,26 @@
 //! The request that words spell.
 
-ghost use Rattle.std.specs.Prelude.{◌≡◌, ◌<◌, ◌≤◌, ◌+◌, ◌^◌, ℕ, List, Some, true, map, string_bytes, length, IfSome, IfOk};
-ghost use Rattle.pd_answers.specs.Words.{asked, check_with, dump_with, generated_number, meant_if_any, region_of, stage_of, stage_or_last, version_of, version_or_first};
+ghost use Rattle.std.specs.Prelude.{◌≡◌, Some, true, map, string_bytes, IfSome};
+ghost use Rattle.std.specs.Option.{option_copied};
 ghost use Rattle.pd_kinds.specs.declared.kind.Stage.TheVariants.{Counts};
-ghost use Rattle.pd_answers.specs.Tools as tools_spec;
+ghost use Rattle.pd_answers.specs.Words.{asked, check_with, dump_with, generated_number, meant_if_any};
+ghost use Rattle.pd_answers.specs.Words.{stage_of, stage_or_last, version_of, version_or_first};
+ghost use Rattle.pd_answers.specs.declared.tool.Tool.TheVariants as tool_spec;
+ghost use Rattle.pd_answers.specs.declared.tool.Value.TheVariants as value_spec;
 ghost use Rattle.pd_answers.specs.Words as words_spec;
 ghost use Rattle.pd_words.specs.Items.{items_in, AreItems};
-ghost use Rattle.pd_words.specs.Numbers.{region_as};
-ghost use Rattle.pd_words.specs.Table.{tool_as};
-ghost use Rattle.pd_words.specs.Words.{read_as, answer_as, word_of, words_of, AreNames, IsGenerated, IsName, IsNameIfAny, IsVersion};
+ghost use Rattle.pd_words.specs.Words.{read_as, AreNumbers, IsGenerated, IsVersion};
 
-use crate::forms::tool_named;
-use crate::items::are_items_of;
-use crate::numbers::{Region, number_up_to, read_region};
+use crate::items::{are_items_of, tool_named};
 use crate::repairs::{
     read_dry_named, read_dry_repair, read_dry_search, read_named_repair, read_repair, read_search,
 };
-use crate::request::{Name, Request, WordFault};
 use crate::table::{
     BLOCKS, CLEAR, DATA, FAST, FILE, IMAGE, INPUT, METADATA, NUMBER, ORIGIN, OUTPUT, PASSING,
-    REGION, SHARED, SINCE, TEXT, Tool, UNTIL, VERSION,
+    REGION, SHARED, SINCE, TEXT, UNTIL, VERSION,
 };
-use crate::values::{flag, optional, required, required_number};
+use crate::values::{flag, number_up_to, optional, read_region, required, required_number};
+use pd_answers::{Asked, Request, Tool};
 use pd_kinds::{Flagged, Kind, Passing, Stage};
 
 /// The request that the words spell, without the program's own name.
@@ -29,31 +28,31 @@ use pd_kinds::{Flagged, Kind, Passing, Stage};
 /// The first word is the name of a tool. After it come, in any order, an option's word followed by its value, a flag's
 /// word, or the one operand. Each comes at most once. A value or an operand isn't empty and doesn't begin with `-`.
 ///
-/// Fails with `WordFault::Usage` where the words spell no request. It takes no memory.
-pub fn read_words(words: &[String]) -> Result<Request, WordFault>
-    ensures asked { answer_as (map string_bytes words.now) result ≡ asked (map string_bytes words.now) }
-    ensures names { IfOk result (AreNames (length words.now)) }
+/// There is none where the words spell no request. It takes no memory.
+pub fn read_words(words: &[String]) -> Option<Request<&str>>
+    ensures asked { read_as result ≡ asked (map string_bytes words.now) }
+    ensures numbers { IfSome result AreNumbers }
 {
     if words.is_empty() {
-        return Err(WordFault::Usage);
+        return None;
     }
     match tool_named(words, words[0].as_str()) {
-        None => Err(WordFault::Usage),
+        None => None,
         Some(row) => {
             if are_items_of(row.words, words, 1) {
-                read_request(row.tool, words).ok_or(WordFault::Usage)
+                read_request(row.tool, words)
             } else {
-                Err(WordFault::Usage)
+                None
             }
         }
     }
 }
 
 /// What the words ask of a tool.
-fn read_request(tool: Tool, words: &[String]) -> Option<Request>
+fn read_request(tool: Tool, words: &[String]) -> Option<Request<&str>>
     requires { AreItems (map string_bytes words.now) }
-    ensures asked { read_as (map string_bytes words.now) result ≡ words_spec.request_of (tool_as tool) (items_in (map string_bytes words.now)) }
-    ensures names { IfSome result (AreNames (length words.now)) }
+    ensures asked { read_as result ≡ words_spec.request_of tool (items_in (map string_bytes words.now)) }
+    ensures numbers { IfSome result AreNumbers }
 {
     match tool {
         Tool::Check(kind) => read_check(kind, words),
@@ -78,12 +77,12 @@ fn read_request(tool: Tool, words: &[String]) -> Option<Request>
 
 /// What the words ask of a check.
 #[tactic(auto, unfolding(pd_answers::specs::Words::request_of))]
-fn read_check(kind: Kind, words: &[String]) -> Option<Request>
+fn read_check(kind: Kind, words: &[String]) -> Option<Request<&str>>
     requires { AreItems (map string_bytes words.now) }
-    ensures asked { read_as (map string_bytes words.now) result ≡ words_spec.request_of (tools_spec.check_tool kind) (items_in (map string_bytes words.now)) }
-    ensures names { IfSome result (AreNames (length words.now)) }
+    ensures asked { read_as result ≡ words_spec.request_of (tool_spec.Check kind) (items_in (map string_bytes words.now)) }
+    ensures numbers { IfSome result AreNumbers }
 {
-    let until = stage_if_any(words, optional(words, UNTIL)?)?;
+    let until = stage_if_any(optional(words, UNTIL)?)?;
     let leaks = flag(words, PASSING)?;
     let clear = flag(words, CLEAR)?;
     let image = required(words, IMAGE)?;
@@ -92,36 +91,49 @@ fn read_check(kind: Kind, words: &[String]) -> Option<Request>
 
 /// What the words ask of a dump.
 #[tactic(auto, unfolding(pd_answers::specs::Words::request_of))]
-fn read_dump(kind: Kind, words: &[String]) -> Option<Request>
+fn read_dump(kind: Kind, words: &[String]) -> Option<Request<&str>>
     requires { AreItems (map string_bytes words.now) }
-    ensures asked { read_as (map string_bytes words.now) result ≡ words_spec.request_of (tools_spec.dump_tool kind) (items_in (map string_bytes words.now)) }
-    ensures names { IfSome result (AreNames (length words.now)) }
+    ensures asked { read_as result ≡ words_spec.request_of (tool_spec.Dump kind) (items_in (map string_bytes words.now)) }
+    ensures numbers { IfSome result AreNumbers }
 {
     let shared = flag(words, SHARED)?;
-    let out = optional(words, FILE)?;
+    let file = optional(words, FILE)?;
     let image = required(words, IMAGE)?;
-    dump_with(kind, shared, out, image)
+    dump_with(kind, shared, file, image)
 }
 
 /// A dump; only of a pool the leaves that are shared are told once.
-fn dump_with(kind: Kind, shared: bool, out: Option<Name>, image: Name) -> Option<Request>
-    ensures asked { (words : List (List ℕ)) → read_as words result ≡ dump_with kind shared (words_of words out) (word_of words image) }
-    ensures names { (number : ℕ) → IsNameIfAny number out → IsName number image → IfSome result (AreNames number) }
+fn dump_with<'a>(
+    kind: Kind,
+    shared: bool,
+    file: Option<&'a str>,
+    image: &'a str,
+) -> Option<Request<&'a str>>
+    ensures asked { read_as result ≡ dump_with kind shared (option_copied file.entry) image.now }
+    ensures numbers { IfSome result AreNumbers }
 {
-    if !shared {
-        return Some(Request::Dump { kind, image, out });
-    }
-    match kind {
-        Kind::Thin => Some(Request::DumpShared { image, out }),
-        Kind::Cache => None,
-        Kind::Era => None,
-    }
+    let asked = if !shared {
+        Asked::Text(kind)
+    } else {
+        match kind {
+            Kind::Thin => Asked::SharedText,
+            Kind::Cache => return None,
+            Kind::Era => return None,
+        }
+    };
+    Some(Request::Query { asked, file, image })
 }
 
 /// A check; the flags stand only where it goes to its end.
-fn check_with(kind: Kind, until: Stage, leaks: bool, clear: bool, image: Name) -> Option<Request>
-    ensures asked { (words : List (List ℕ)) → read_as words result ≡ check_with kind until leaks clear (word_of words image) }
-    ensures names { (number : ℕ) → IsName number image → IfSome result (AreNames number) }
+fn check_with(
+    kind: Kind,
+    until: Stage,
+    leaks: bool,
+    clear: bool,
+    image: &str,
+) -> Option<Request<&str>>
+    ensures asked { read_as result ≡ check_with kind until leaks clear image.now }
+    ensures numbers { IfSome result AreNumbers }
 {
     if !leaks && !clear {
         return Some(Request::Check { kind, until, image });
@@ -139,9 +151,9 @@ fn check_with(kind: Kind, until: Stage, leaks: bool, clear: bool, image: Name) -
 }
 
 /// A check that clears the flag "needs check"; only a pool and a cache have one.
-fn clearing_check(kind: Kind, leaks: bool, image: Name) -> Option<Request>
-    ensures asked { (words : List (List ℕ)) → read_as words result ≡ check_with kind Counts leaks true (word_of words image) }
-    ensures names { (number : ℕ) → IsName number image → IfSome result (AreNames number) }
+fn clearing_check(kind: Kind, leaks: bool, image: &str) -> Option<Request<&str>>
+    ensures asked { read_as result ≡ check_with kind Counts leaks true image.now }
+    ensures numbers { IfSome result AreNumbers }
 {
     let passing = if leaks {
         Passing::Leaks
@@ -162,137 +174,139 @@ fn clearing_check(kind: Kind, leaks: bool, image: Name) -> Option<Request>
 
 /// What the words ask of a restore.
 #[tactic(auto, unfolding(pd_answers::specs::Words::request_of))]
-fn read_restore(kind: Kind, words: &[String]) -> Option<Request>
+fn read_restore(kind: Kind, words: &[String]) -> Option<Request<&str>>
     requires { AreItems (map string_bytes words.now) }
-    ensures asked { read_as (map string_bytes words.now) result ≡ words_spec.request_of (tools_spec.restore_tool kind) (items_in (map string_bytes words.now)) }
-    ensures names { IfSome result (AreNames (length words.now)) }
+    ensures asked { read_as result ≡ words_spec.request_of (tool_spec.Restore kind) (items_in (map string_bytes words.now)) }
+    ensures numbers { IfSome result AreNumbers }
 {
-    let version = version_if_any(words, optional(words, VERSION)?)?;
+    let version = version_if_any(optional(words, VERSION)?)?;
     let text = required(words, TEXT)?;
     let image = required(words, OUTPUT)?;
     Some(Request::Restore {
         kind,
+        version: version_or_first(version),
         text,
         image,
-        version: version_or_first(version),
     })
 }
 
 /// What the words ask of a cache's repair.
 #[tactic(auto, unfolding(pd_answers::specs::Words::request_of))]
-fn read_repair_cache(words: &[String]) -> Option<Request>
+fn read_repair_cache(words: &[String]) -> Option<Request<&str>>
     requires { AreItems (map string_bytes words.now) }
-    ensures asked { read_as (map string_bytes words.now) result ≡ words_spec.request_of tools_spec.cache_repair_tool (items_in (map string_bytes words.now)) }
-    ensures names { IfSome result (AreNames (length words.now)) }
+    ensures asked { read_as result ≡ words_spec.request_of tool_spec.RepairCache (items_in (map string_bytes words.now)) }
+    ensures numbers { IfSome result AreNumbers }
 {
-    let version = version_if_any(words, optional(words, VERSION)?)?;
+    let version = version_if_any(optional(words, VERSION)?)?;
     let input = required(words, INPUT)?;
     let output = required(words, OUTPUT)?;
     Some(Request::RepairCache {
+        version,
         input,
         output,
-        version,
     })
 }
 
 /// What the words ask of the reverse map.
 #[tactic(auto, unfolding(pd_answers::specs::Words::request_of))]
-fn read_rmap(words: &[String]) -> Option<Request>
+fn read_rmap(words: &[String]) -> Option<Request<&str>>
     requires { AreItems (map string_bytes words.now) }
-    ensures asked { read_as (map string_bytes words.now) result ≡ words_spec.request_of tools_spec.rmap_tool (items_in (map string_bytes words.now)) }
-    ensures names { IfSome result (AreNames (length words.now)) }
+    ensures asked { read_as result ≡ words_spec.request_of tool_spec.ReverseMap (items_in (map string_bytes words.now)) }
+    ensures numbers { IfSome result AreNumbers }
 {
-    let region = region_named(words, required(words, REGION)?)?;
-    let out = optional(words, FILE)?;
+    let region = read_region(required(words, REGION)?)?;
+    let file = optional(words, FILE)?;
     let image = required(words, IMAGE)?;
-    Some(Request::Rmap {
-        first: region.first,
-        end: region.end,
+    Some(Request::Query {
+        asked: Asked::ReverseMap {
+            first: region.first,
+            end: region.end,
+        },
+        file,
         image,
-        out,
     })
 }
 
 /// What the words ask of the list of devices.
 #[tactic(auto, unfolding(pd_answers::specs::Words::request_of))]
-fn read_device_list(words: &[String]) -> Option<Request>
+fn read_device_list(words: &[String]) -> Option<Request<&str>>
     requires { AreItems (map string_bytes words.now) }
-    ensures asked { read_as (map string_bytes words.now) result ≡ words_spec.request_of tools_spec.device_list_tool (items_in (map string_bytes words.now)) }
-    ensures names { IfSome result (AreNames (length words.now)) }
+    ensures asked { read_as result ≡ words_spec.request_of tool_spec.DeviceList (items_in (map string_bytes words.now)) }
+    ensures numbers { IfSome result AreNumbers }
 {
-    let out = optional(words, FILE)?;
+    let file = optional(words, FILE)?;
     let image = required(words, IMAGE)?;
-    Some(Request::List { image, out })
+    Some(Request::Query {
+        asked: Asked::DeviceList,
+        file,
+        image,
+    })
 }
 
 /// What the words ask of the blocks that were written since an era.
 #[tactic(auto, unfolding(pd_answers::specs::Words::request_of))]
-fn read_since(words: &[String]) -> Option<Request>
+fn read_since(words: &[String]) -> Option<Request<&str>>
     requires { AreItems (map string_bytes words.now) }
-    ensures asked { read_as (map string_bytes words.now) result ≡ words_spec.request_of tools_spec.since_tool (items_in (map string_bytes words.now)) }
-    ensures names { IfSome result (AreNames (length words.now)) }
+    ensures asked { read_as result ≡ words_spec.request_of tool_spec.Since (items_in (map string_bytes words.now)) }
+    ensures numbers { IfSome result AreNumbers }
 {
     let era = required_number(words, u32::MAX as u64, SINCE)?;
-    let out = optional(words, FILE)?;
+    let file = optional(words, FILE)?;
     let image = required(words, IMAGE)?;
-    Some(Request::Since {
-        era: era as u32,
+    Some(Request::Query {
+        asked: Asked::Since { era: era as u32 },
+        file,
         image,
-        out,
     })
-}
-
-/// The region that a word names.
-fn region_named(words: &[String], name: Name) -> Option<Region>
-    requires { IsName (length words.now) name }
-    ensures { region_as result ≡ region_of (word_of (map string_bytes words.now) name) }
-{
-    read_region(name.word_in(words))
 }
 
 /// What the words ask of the generator.
 #[tactic(auto, unfolding(pd_answers::specs::Words::request_of))]
-fn read_generate(words: &[String]) -> Option<Request>
+fn read_generate(words: &[String]) -> Option<Request<&str>>
     requires { AreItems (map string_bytes words.now) }
-    ensures asked { read_as (map string_bytes words.now) result ≡ words_spec.request_of tools_spec.generate_tool (items_in (map string_bytes words.now)) }
-    ensures names { IfSome result (AreNames (length words.now)) }
+    ensures asked { read_as result ≡ words_spec.request_of tool_spec.Generate (items_in (map string_bytes words.now)) }
+    ensures numbers { IfSome result AreNumbers }
 {
-    let number = generated_number(words, required(words, NUMBER)?)?;
-    let out = optional(words, FILE)?;
-    Some(Request::Generate { number, out })
+    let number = generated_number(required(words, NUMBER)?)?;
+    let file = optional(words, FILE)?;
+    Some(Request::Generate { number, file })
 }
 
 /// What the words ask of a rehearsal.
 #[tactic(auto, unfolding(pd_answers::specs::Words::request_of))]
-fn read_rehearse(words: &[String]) -> Option<Request>
+fn read_rehearse(words: &[String]) -> Option<Request<&str>>
     requires { AreItems (map string_bytes words.now) }
-    ensures asked { read_as (map string_bytes words.now) result ≡ words_spec.request_of tools_spec.rehearse_tool (items_in (map string_bytes words.now)) }
-    ensures names { IfSome result (AreNames (length words.now)) }
+    ensures asked { read_as result ≡ words_spec.request_of tool_spec.Rehearse (items_in (map string_bytes words.now)) }
+    ensures numbers { IfSome result AreNumbers }
 {
-    let number = generated_number(words, required(words, NUMBER)?)?;
+    let number = generated_number(required(words, NUMBER)?)?;
     let image = required(words, OUTPUT)?;
     Some(Request::Rehearse { number, image })
 }
 
 /// What the words ask of a writeback.
 #[tactic(auto, unfolding(pd_answers::specs::Words::request_of))]
-fn read_writeback(words: &[String]) -> Option<Request>
+fn read_writeback(words: &[String]) -> Option<Request<&str>>
     requires { AreItems (map string_bytes words.now) }
-    ensures asked { read_as (map string_bytes words.now) result ≡ words_spec.request_of tools_spec.writeback_tool (items_in (map string_bytes words.now)) }
-    ensures names { IfSome result (AreNames (length words.now)) }
+    ensures asked { read_as result ≡ words_spec.request_of tool_spec.Writeback (items_in (map string_bytes words.now)) }
+    ensures numbers { IfSome result AreNumbers }
 {
-    let meta = required(words, METADATA)?;
+    let metadata = required(words, METADATA)?;
     let fast = required(words, FAST)?;
     let origin = required(words, ORIGIN)?;
-    Some(Request::Writeback { meta, fast, origin })
+    Some(Request::Writeback {
+        metadata,
+        fast,
+        origin,
+    })
 }
 
 /// What the words ask of a shrink.
 #[tactic(auto, unfolding(pd_answers::specs::Words::request_of))]
-fn read_shrink(words: &[String]) -> Option<Request>
+fn read_shrink(words: &[String]) -> Option<Request<&str>>
     requires { AreItems (map string_bytes words.now) }
-    ensures asked { read_as (map string_bytes words.now) result ≡ words_spec.request_of tools_spec.shrink_tool (items_in (map string_bytes words.now)) }
-    ensures names { IfSome result (AreNames (length words.now)) }
+    ensures asked { read_as result ≡ words_spec.request_of tool_spec.Shrink (items_in (map string_bytes words.now)) }
+    ensures numbers { IfSome result AreNumbers }
 {
     let shared = flag(words, SHARED)?;
     let input = required(words, INPUT)?;
@@ -300,9 +314,9 @@ fn read_shrink(words: &[String]) -> Option<Request>
     let pool = required(words, DATA)?;
     let blocks = required_number(words, u64::MAX, BLOCKS)?;
     Some(Request::Shrink {
+        shared,
         input,
         output,
-        shared,
         pool,
         blocks,
     })
@@ -310,12 +324,11 @@ fn read_shrink(words: &[String]) -> Option<Request>
 
 /// The number from 1 to 10000 that a word is.
 #[tactic(auto, unfolding(pd_answers::specs::Words::generated_number))]
-fn generated_number(words: &[String], name: Name) -> Option<u32>
-    requires { IsName (length words.now) name }
-    ensures number { result ≡ generated_number (word_of (map string_bytes words.now) name) }
+fn generated_number(word: &str) -> Option<u32>
+    ensures number { result ≡ generated_number word.now }
     ensures within { IfSome result IsGenerated }
 {
-    match number_up_to(10000, name.word_in(words)) {
+    match number_up_to(10000, word) {
         None => None,
         Some(number) => {
             if number == 0 {
@@ -338,13 +351,12 @@ fn stage_or_last(until: Option<Stage>) -> Stage
 }
 
 /// The stage that a word names, if there is one.
-fn stage_if_any(words: &[String], name: Option<Name>) -> Option<Option<Stage>>
-    requires { IsNameIfAny (length words.now) name }
-    ensures { result ≡ meant_if_any tools_spec.stage (words_of (map string_bytes words.now) name) }
+fn stage_if_any(word: Option<&str>) -> Option<Option<Stage>>
+    ensures { result ≡ meant_if_any value_spec.Stage (option_copied word.entry) }
 {
-    match name {
+    match word {
         None => Some(None),
-        Some(name) => match stage_named(name.word_in(words)) {
+        Some(word) => match stage_named(word) {
             None => None,
             Some(stage) => Some(Some(stage)),
         },
@@ -367,14 +379,13 @@ fn stage_named(word: &str) -> Option<Stage>
 }
 
 /// The version of the metadata that a word names, if there is one.
-fn version_if_any(words: &[String], name: Option<Name>) -> Option<Option<u32>>
-    requires { IsNameIfAny (length words.now) name }
-    ensures version { result ≡ meant_if_any tools_spec.version (words_of (map string_bytes words.now) name) }
+fn version_if_any(word: Option<&str>) -> Option<Option<u32>>
+    ensures version { result ≡ meant_if_any value_spec.Version (option_copied word.entry) }
     ensures within { IfSome result (λ read. IfSome read IsVersion) }
 {
-    match name {
+    match word {
         None => Some(None),
-        Some(name) => match version_number(name.word_in(words)) {
+        Some(word) => match version_number(word) {
             None => None,
             Some(version) => Some(Some(version)),
         },

@@ -1,11 +1,6 @@
-pub mod CopyLemmas
 pub mod OverlaidLemmas
-pub mod MarkedLemmas
-pub mod PlacesLemmas
-pub mod HotLemmas
-pub mod SettleLemmas
 pub mod UnchangedLemmas
 pub mod PlanLemmas
-pub mod MadeLemmas
+pub mod PlacesLemmas
+pub mod MarkedLemmas
 pub mod OnceLemmas
-pub mod ReachedLemmas

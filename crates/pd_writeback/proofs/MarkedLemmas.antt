@@ -11,18 +11,14 @@ use Rattle.pd_kinds.specs.Field.{zeros}
 use Rattle.pd_kinds.specs.Graph.{block_at}
 use Rattle.pd_kinds.specs.Meaning.{cache_meaning}
 use Rattle.pd_kinds.specs.Crash.{HoldsSynced, IsNoneOrNew, IsOldOrNone, LeavesOnly}
-use Rattle.pd_kinds.specs.Objects.{DeviceState}
-use Rattle.pd_kinds.specs.Moments.{History, present_moment}
-use Rattle.pd_kinds.proofs.CrashLemmas.{and_then, left_now, left_synced, stays, weaken}
+use Rattle.pd_kinds.specs.Objects.{DeviceState, History, present_moment}
+use Rattle.pd_kinds.proofs.CrashLemmas.{and_then, left_now, left_synced, stays, weaken, Image}
+use Rattle.pd_answers.specs.Writebacks.{dirty_places, hot_blocks, settled, settled_block}
 use Rattle.pd_image.proofs.CrashLemmas.{at_some}
 use Rattle.pd_draft.specs.Closed.{StaysClosed}
 use Rattle.pd_draft.proofs.DraftLemmas.{zeros_none}
-use Rattle.pd_answers.specs.CachedView.{dirty_places, hot_blocks, settled, settled_block}
-use Rattle.pd_writeback.specs.Marked.{IsOldNoneOrMarked, marked, marked_image}
-use Rattle.pd_writeback.specs.Places.{ArePlaces}
-
-abbrev Image : Type 0
-Image = List (List ℕ)
+use Rattle.pd_writeback.specs.Copied.{IsOldNoneOrMarked, marked, marked_image}
+use Rattle.pd_writeback.specs.Room.{ArePlaces}
 
 -- one place more
 pub marked_last : (version : ℕ) (image : Image) (places : List ℕ) (place : ℕ)

@@ -7,8 +7,8 @@ use Rattle.std.proofs.lemmas.Bool.{and_parts, cases_lt, eq-eqb, leb-true, ltb-tr
 use Rattle.std.proofs.lemmas.List.Sums.{sum_by-cons}
 use Rattle.pd_kinds.specs.Meaning.{CacheEntry, CacheMeaning}
 use Rattle.pd_kinds.specs.Whole.{has_repeat}
-use Rattle.pd_answers.specs.CachedView.{cached_block, hot_blocks, is_hot, stands_for}
-use Rattle.pd_writeback.specs.Overlaid.{IsEachOnce}
+use Rattle.pd_answers.specs.Writebacks.{cached_block, hot_blocks, is_hot, stands_for}
+use Rattle.pd_writeback.specs.Copied.{IsEachOnce}
 
 -- whether a block of the origin belongs to this one
 abbrev covers : ℕ → ℕ → ℕ → Bool

@@ -1,27 +1,69 @@
 -- When the marking of a cache changes nothing.
-use Rattle.std.proofs.Common.{◌≡◌, inl, inr, ℕ, suc, ◌+◌, ◌<◌, ◌≤◌, Bool, true, false, cond, nat_eq, List, [], ◌∷◌, length, get_or, map, refl, sym, ap, ◌∙◌, arith, eq-eqb}
-use Rattle.std.specs.List.{list_all, list_any, range_with_len}
+use Rattle.std.proofs.Common.{◌≡◌, ℕ, zero, suc, ◌+◌, ◌*◌, ◌<◌, Bool, true, false, ◌&&◌, nat_eq, List, map, take, refl, sym, ap, ◌∙◌, arith, inl, inr, cond, [], ◌∷◌, length, get_or, eq-eqb}
+use Rattle.std.specs.List.{list_all, range_with_len, list_any}
+use Rattle.std.proofs.lemmas.List.FromFn.{length-map-range_with_len, get_or-map-range_with_len}
 use Rattle.std.proofs.lemmas.Bool.{cases_Bool, cases_lt, cond_both, true≢false}
 use Rattle.std.proofs.lemmas.List.{ext_get_or}
 use Rattle.std.proofs.lemmas.List.Elements.{All-get_or}
 use Rattle.std.proofs.lemmas.List.Folds.{list_all_at, list_any_at}
-use Rattle.std.proofs.lemmas.List.FromFn.{get_or-map-range_with_len, length-map-range_with_len}
 use Rattle.std.proofs.lemmas.Option.{unwrap_or-slice_get}
-use Rattle.pd_kinds.specs.Array.{word_at, word_count}
+use Rattle.pd_kinds.specs.Array.{array_salt, word_at, word_count}
+use Rattle.pd_kinds.specs.Field.{sealed, put}
+use Rattle.pd_kinds.specs.Node.{puts}
+use Rattle.pd_kinds.proofs.FieldLemmas.{row_more}
 use Rattle.pd_kinds.specs.CacheFormat.{cache_fields}
 use Rattle.pd_kinds.specs.Graph.{block_at}
 use Rattle.pd_kinds.specs.Image.{HasBytes, HasWholeBlocks}
 use Rattle.pd_kinds.specs.Meaning.{cache_meaning}
-use Rattle.pd_laid_graph.proofs.Bytes.{AreBytes}
-use Rattle.pd_answers.specs.CachedView.{dirty_places, hot_blocks, settled, settled_block, settled_word}
-use Rattle.pd_changed.proofs.SettledBlock.{settled_words}
-use Rattle.pd_writeback.specs.Marked.{are_settled, is_block_settled}
-use Rattle.pd_writeback.specs.Places.{ArePlaces}
+use Rattle.pd_kinds.proofs.CrashLemmas.{Image}
+use Rattle.pd_answers.specs.Writebacks.{long_words, settled_block, settled_word, dirty_places, hot_blocks, settled}
+use Rattle.pd_laws_laid.proofs.Bytes.{AreBytes}
+use Rattle.pd_laws_changed.proofs.Resealed.{settled_words}
+use Rattle.pd_writeback.specs.Copied.{are_settled, is_block_settled}
+use Rattle.pd_writeback.specs.Room.{ArePlaces}
 use Rattle.pd_writeback.proofs.MarkedLemmas.{any_at}
-use Rattle.pd_writeback.proofs.SettleLemmas.{all_pass, settled_is}
 
-abbrev Image : Type 0
-Image = List (List ℕ)
+-- The words of a block, and a row of them written.
+
+-- each of a row passes a test
+pub all_pass : (p : ℕ → Bool) (f : ℕ → ℕ) (a n : ℕ) → ((k : ℕ) → k < n → p (f (a + k)) ≡ true) → list_all p (map f (range_with_len a n)) ≡ true
+all_pass p f a zero each = refl
+all_pass p f a (suc n) each =
+    let here : a + 0 ≡ a = omega arith in
+    rw (rw here at (each 0 (omega arith)))
+    (all_pass p f (a + 1) n (λ k within. let there : a + suc k ≡ a + 1 + k = omega arith in rw there at (each (suc k) (omega arith))))
+
+-- one of a row fails it
+pub one_fails : (p : ℕ → Bool) (f : ℕ → ℕ) (a n k : ℕ) → k < n → p (f (a + k)) ≡ false → list_all p (map f (range_with_len a n)) ≡ false
+one_fails p f a zero k within fails = absurd (omega arith)
+one_fails p f a (suc n) zero within fails = let here : a + 0 ≡ a = omega arith in rw (rw here at fails) refl
+one_fails p f a (suc n) (suc k) within fails =
+    let there : a + suc k ≡ a + 1 + k = omega arith in
+    by_first (p (f a)) (one_fails p f (a + 1) n k (omega arith) (rw there at fails))
+  where
+    by_first : (t : Bool) → list_all p (map f (range_with_len (a + 1) n)) ≡ false → (t && list_all p (map f (range_with_len (a + 1) n))) ≡ false
+    by_first true rest = rest
+    by_first false rest = refl
+
+-- a row of settled words goes on by one
+pub settled_more : (version : ℕ) (block made : List ℕ) (i : ℕ) → i < word_count 8 block
+    → put (puts made 24 8 (map (settled_word version) (take i (long_words block)))) (24 + 8 * i) 8 (settled_word version (word_at 8 block i))
+    ≡ puts made 24 8 (map (settled_word version) (take (i + 1) (long_words block)))
+settled_more version block made i within =
+    let number = length-map-range_with_len (word_at 8 block) 0 (word_count 8 block) in
+    let word = get_or-map-range_with_len (word_at 8 block) 0 (word_count 8 block) i i 0 within (omega arith) in
+    ap (λ (w : ℕ). put (puts made 24 8 (map (settled_word version) (take i (long_words block)))) (24 + 8 * i) 8 (settled_word version w)) (sym word)
+    ∙ sym (row_more (settled_word version) made 24 8 (long_words block) i 0 (omega arith))
+
+-- a block with settled words
+pub settled_is : (version : ℕ) (block : List ℕ) → list_all (λ word. nat_eq (settled_word version word) word) (long_words block) ≡ true → settled_block version block ≡ block
+unfolding settled_block
+settled_is version block all = rw all refl
+
+pub settled_not : (version : ℕ) (block : List ℕ) → list_all (λ word. nat_eq (settled_word version word) word) (long_words block) ≡ false
+    → sealed (puts block 24 8 (map (settled_word version) (long_words block))) array_salt ≡ settled_block version block
+unfolding settled_block
+settled_not version block some = rw some refl
 
 -- each of a list passes a test
 pub all_if : (test : ℕ → Bool) (xs : List ℕ) → ((k : ℕ) → k < length xs → test (get_or xs k 0) ≡ true) → list_all test xs ≡ true

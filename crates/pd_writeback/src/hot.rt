@@ -1,17 +1,16 @@
-//! The cached blocks that a writeback copies.
+//! The cached blocks that a writeback copies (`cache_writeback`).
 
-ghost use Rattle.std.specs.Prelude.{◌≡◌, ◌++◌, List, OnOk, IfOk, IfSome};
+ghost use Rattle.std.specs.Prelude.{◌≡◌, ◌++◌, OnOk, IfOk, IfSome};
 ghost use Rattle.std.specs.List.Sorted.{IsPermutation};
 ghost use Rattle.pd_image.specs.Device.{IsAttached, OnlyReads};
-ghost use Rattle.pd_cache_meaning.specs.Rows.{rows_below};
-ghost use Rattle.pd_cache_meaning.specs.RowsAhead.{Knows, rows_ahead};
-ghost use Rattle.pd_writeback.specs.Failing.{CountsMeta};
-ghost use Rattle.pd_writeback.specs.Hot.{cached_all, hot_one, hot_rows, is_clean};
+ghost use Rattle.pd_meaning_cache.specs.Rows.{rows_below};
+ghost use Rattle.pd_meaning_cache.specs.Sides.{Knows, rows_ahead};
+ghost use Rattle.pd_writeback.specs.Plan.{CountsMeta, cached_all, hot_one, hot_rows, is_clean};
 
-use crate::fault::WriteFault;
-use pd_cache_meaning::CacheRows;
+use crate::making::WriteFault;
 use pd_image::Device;
 use pd_kinds::CacheSuper;
+use pd_meaning_cache::CacheRows;
 use std::alloc::{AllocError, Global};
 
 /// A cached block whose origin may be older than it.
@@ -31,7 +30,8 @@ pub(crate) fn find_hot<A: Device>(
     meta: &mut A,
 ) -> Result<Vec<HotBlock>, WriteFault>
     requires attached { IsAttached (A.state meta.old) }
-    ensures hot { IfOk result (λ hot. IfSome (A.state meta.old).held (λ image. cached_all hot.items ≡ hot_rows (is_clean s.now) (rows_below image s.now))) }
+    ensures hot { IfOk result (λ hot. IfSome (A.state meta.old).held
+        (λ image. cached_all hot.items ≡ hot_rows (is_clean s.now) (rows_below image s.now))) }
     ensures kept { OnlyReads (A.state meta.old) (A.state meta.new) }
     ensures faults { CountsMeta result (A.state meta.old).faults (A.state meta.new).faults }
 {
@@ -48,7 +48,8 @@ fn gather<A: Device>(
 ) -> Result<Vec<HotBlock>, WriteFault>
     requires attached { IsAttached (A.state meta.old) }
     requires knows { IfSome (A.state meta.old).held (λ image. Knows image rows.old) }
-    ensures hot { IfOk result (λ hot. IfSome (A.state meta.old).held (λ image. cached_all hot.items ≡ hot_rows clean (rows_ahead image rows.old))) }
+    ensures hot { IfOk result (λ hot. IfSome (A.state meta.old).held
+        (λ image. cached_all hot.items ≡ hot_rows clean (rows_ahead image rows.old))) }
     ensures kept { OnlyReads (A.state meta.old) (A.state meta.new) }
     ensures faults { CountsMeta result (A.state meta.old).faults (A.state meta.new).faults }
 {

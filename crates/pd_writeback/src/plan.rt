@@ -1,19 +1,16 @@
-//! What a writeback is to do.
+//! What a writeback is to do (`cache_writeback`).
 
 ghost use Rattle.std.specs.Prelude.{◌≤◌};
-ghost use Rattle.pd_writeback.specs.Places.{ArePlaces};
-ghost use Rattle.pd_writeback.specs.Room.{AllFit};
+ghost use Rattle.pd_writeback.specs.Room.{ArePlaces, AllFit};
 
-use crate::fault::WriteFault;
+use crate::copying::copy_hot;
 use crate::hot::{HotBlock, sort_by_origin};
-use crate::laws::{hot_blocks_are_apart, places_are_those_of_one_tree};
-use crate::making::{find_dirty, is_block_size_bad, read_super};
+use crate::making::{WriteFault, find_dirty, is_block_size_bad, look_at_room, read_super};
 use crate::marking::{are_settled, mark_places};
-use crate::pairs::copy_hot;
-use crate::room::look_at_room;
-use pd_cache_meaning::rows_are_the_entries;
+use crate::places::{hot_blocks_are_apart, places_are_those_of_one_tree};
 use pd_image::Device;
 use pd_kinds::Block;
+use pd_meaning_cache::rows_are_the_entries;
 use pd_supers::read_cache_super;
 use std::alloc::Global;
 
@@ -41,7 +38,7 @@ pub struct Plan {
 }
 
 impl Plan {
-    ghost use Rattle.std.specs.Prelude.{◌≡◌, ◌≢◌, ◌+◌, ◌<◌, ◌≤◌, ℕ, List, [], Some, IfOk, IfSome, OnOk, length, is_some};
+    ghost use Rattle.std.specs.Prelude.{◌≡◌, ◌≢◌, ◌≤◌, ℕ, List, [], Some, IfOk, IfSome, OnOk, length, is_some};
     ghost use Rattle.std.specs.List.Sorted.{IsPermutation};
     ghost use Rattle.pd_kinds.specs.declared.kind.Kind.TheVariants.{Cache};
     ghost use Rattle.pd_kinds.specs.declared.kind.Stage.TheVariants.{Whole};
@@ -49,9 +46,9 @@ impl Plan {
     ghost use Rattle.pd_kinds.specs.Graph.{block_at};
     ghost use Rattle.pd_kinds.specs.Stages.{faults};
     ghost use Rattle.pd_image.specs.Device.{IsAttached, IsWritable, KeepsPlace, OnlyReads};
-    ghost use Rattle.pd_answers.specs.CachedView.{CachedBlock, copied, settled};
-    ghost use Rattle.pd_writeback.specs.Failing.{CountsCopies, CountsMarking, CountsPlanning};
-    ghost use Rattle.pd_writeback.specs.Overlaid.{IsLeftKept};
+    ghost use Rattle.pd_answers.specs.Writebacks.{CachedBlock, copied, settled};
+    ghost use Rattle.pd_writeback.specs.Plan.{CountsCopies, CountsMarking, CountsPlanning};
+    ghost use Rattle.pd_writeback.specs.Copied.{IsLeftKept};
     ghost use Rattle.pd_writeback.specs.Plan.{IsPlanOf, Plans, plan_each, plan_hot};
 
     /// Makes the plan of the writeback of a cache. It takes all memory that the writeback needs, and writes nothing.
@@ -71,7 +68,8 @@ impl Plan {
         requires origin { IsAttached (B.state origin.now) }
         requires fast { IsAttached (C.state fast.now) }
         requires sound { IfSome (A.state meta.old).held (λ image. faults Cache Whole image ≡ []) }
-        ensures plans { Plans (A.state meta.old).held (A.state meta.old).blocks (B.state origin.now).blocks (C.state fast.now).blocks result }
+        ensures plans { Plans (A.state meta.old).held
+            (A.state meta.old).blocks (B.state origin.now).blocks (C.state fast.now).blocks result }
         ensures kept { OnlyReads (A.state meta.old) (A.state meta.new) }
         ensures faults { CountsPlanning result (A.state meta.old).faults (A.state meta.new).faults }
     {
@@ -92,7 +90,8 @@ impl Plan {
     ) -> Result<Plan, WriteFault>
         requires meta { IsAttached (A.state meta.old) }
         requires some { 1 ≤ (A.state meta.old).blocks }
-        requires sound { IfSome (A.state meta.old).held (λ image. (faults Cache Whole image ≡ []) × (super_block.value.0 ≡ block_at image 0)) }
+        requires sound { IfSome (A.state meta.old).held
+            (λ image. (faults Cache Whole image ≡ []) × (super_block.value.0 ≡ block_at image 0)) }
         ensures plans { Plans (A.state meta.old).held (A.state meta.old).blocks origin_blocks fast_blocks result }
         ensures kept { OnlyReads (A.state meta.old) (A.state meta.new) }
         ensures faults { CountsPlanning result (A.state meta.old).faults (A.state meta.new).faults }
@@ -136,16 +135,19 @@ impl Plan {
         requires fast_blocks { (C.state fast.old).blocks ≡ self.now.fast_blocks }
         ensures count { IfOk result (λ n. n ≡ length (plan_hot self.now)) }
         ensures copied { OnOk result ((image : List (List ℕ)) → faults Cache Whole image ≡ [] → IsPlanOf image self.now
-            → IfSome (C.state fast.old).held (λ held. (old : List (List ℕ)) → HoldsSynced old (B.state origin.old) → HoldsSynced (copied image old held) (B.state origin.new))) }
+            → IfSome (C.state fast.old).held (λ held. (old : List (List ℕ))
+            → HoldsSynced old (B.state origin.old) → HoldsSynced (copied image old held) (B.state origin.new))) }
 
         // Where nothing was unsynced, a crash at any moment leaves every block that no hot one stands for as it was.
-        ensures crash { (hot : List CachedBlock) (old : List (List ℕ)) → IsPermutation hot (plan_hot self.now) → HoldsSynced old (B.state origin.old)
+        ensures crash { (hot : List CachedBlock) (old : List (List ℕ))
+            → IsPermutation hot (plan_hot self.now) → HoldsSynced old (B.state origin.old)
             → LeavesOnly (IsLeftKept (plan_each self.now) hot old) (B.state origin.old) (B.state origin.new) }
         ensures told { StillTells (B.state origin.old) (B.state origin.new) }
         ensures cold { plan_hot self.now ≡ [] → IsUntouched (B.state origin.old) (B.state origin.new) }
         ensures kept { OnlyReads (C.state fast.old) (C.state fast.new) }
         ensures place { KeepsPlace (B.state origin.old) (B.state origin.new) }
-        ensures faults { CountsCopies result (B.state origin.old).faults (B.state origin.new).faults (C.state fast.old).faults (C.state fast.new).faults }
+        ensures faults { CountsCopies result (B.state origin.old).faults
+            (B.state origin.new).faults (C.state fast.old).faults (C.state fast.new).faults }
     {
         hot_blocks_are_apart();
         if self.hot.is_empty() {
@@ -165,14 +167,16 @@ impl Plan {
     pub fn mark<A: Device>(&self, meta: &mut A) -> Result<(), WriteFault>
         requires writable { IsWritable (A.state meta.old) }
         requires blocks { (A.state meta.old).blocks ≡ self.now.meta_blocks }
-        ensures done { OnOk result ((image : List (List ℕ)) → IsPlanOf image self.now → HoldsSynced image (A.state meta.old) → HoldsSynced (settled image) (A.state meta.new)) }
+        ensures done { OnOk result ((image : List (List ℕ)) → IsPlanOf image self.now
+            → HoldsSynced image (A.state meta.old) → HoldsSynced (settled image) (A.state meta.new)) }
 
         // Where nothing was unsynced, a crash leaves the old image, no valid superblock, or nothing that is dirty.
         ensures crash { (image : List (List ℕ)) → IsPlanOf image self.now → HoldsSynced image (A.state meta.old)
             → LeavesOnly (IsOldNoneOrMade image (λ made. made ≡ settled image)) (A.state meta.old) (A.state meta.new) }
         ensures told { StillTells (A.state meta.old) (A.state meta.new) }
         ensures cold { plan_hot self.now ≡ [] → IsUntouched (A.state meta.old) (A.state meta.new) }
-        ensures unchanged { (image : List (List ℕ)) → IsPlanOf image self.now → (A.state meta.old).held ≡ Some image → settled image ≡ image → IsUntouched (A.state meta.old) (A.state meta.new) }
+        ensures unchanged { (image : List (List ℕ)) → IsPlanOf image self.now → (A.state meta.old).held ≡ Some image
+            → settled image ≡ image → IsUntouched (A.state meta.old) (A.state meta.new) }
         ensures kept { KeepsPlace (A.state meta.old) (A.state meta.new) }
         ensures faults { CountsMarking result (A.state meta.old).faults (A.state meta.new).faults }
     {
@@ -195,7 +199,8 @@ impl Plan {
         requires writable { IsWritable (A.state meta.old) }
         requires blocks { (A.state meta.old).blocks ≡ self.now.meta_blocks }
         requires hot { length self.now.hot.items ≢ 0 }
-        ensures done { OnOk result ((image : List (List ℕ)) → IsPlanOf image self.now → HoldsSynced image (A.state meta.old) → HoldsSynced (settled image) (A.state meta.new)) }
+        ensures done { OnOk result ((image : List (List ℕ)) → IsPlanOf image self.now
+            → HoldsSynced image (A.state meta.old) → HoldsSynced (settled image) (A.state meta.new)) }
         ensures crash { (image : List (List ℕ)) → IsPlanOf image self.now → HoldsSynced image (A.state meta.old)
             → LeavesOnly (IsOldNoneOrMade image (λ made. made ≡ settled image)) (A.state meta.old) (A.state meta.new) }
         ensures told { is_some (A.state meta.new).held ≡ is_some (A.state meta.old).held }

@@ -1,13 +1,13 @@
 //! The program: it gives the words of its command line, files and the standard streams to the tools.
 #![tactic(auto)]
 
+mod stack;
+
 ghost use Rattle.std.specs.Prelude.{◌≡◌, ◌≢◌, IsTrue, map, string_bytes};
 ghost use Rattle.std.specs.declared.io.ErrorKind.TheVariants.{OutOfMemory};
 ghost use Rattle.pd_answers.specs.Words.{asked};
 ghost use Rattle.pd_answers.specs.Terms.{is_possible};
 ghost use Rattle.pd_answers.specs.Promises.{terms_of};
-
-mod stack;
 
 use crate::stack::take_stack;
 use pd_files::{FileDevice, OpenFiles, StdSink, StdSource};

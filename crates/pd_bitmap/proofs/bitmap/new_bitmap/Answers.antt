@@ -1,4 +1,4 @@
-use Rattle.pd_bitmap.proofs.CountBits.{two_bits-zeros}
+use Rattle.pd_bitmap.proofs.Filled.{two_bits-zeros}
 use Rattle.pd_bitmap.proofs.bitmap.new_bitmap.Goals as goal
 
 pub returns-clause-counts : goal.returns-clause-counts

@@ -1,5 +1,5 @@
 use Rattle.std.proofs.Common.{ℕ, ◌<◌, get_or, arith}
-use Rattle.pd_bitmap.proofs.IndexRow.{block_of_code}
+use Rattle.pd_bitmap.proofs.Placed.{block_of_code}
 use Rattle.pd_bitmap.proofs.index.entry_at.Goals as goal
 
 pub returns-clause-block : goal.returns-clause-block

@@ -1,7 +1,7 @@
 use Rattle.std.proofs.Common.{refl, ℕ}
 use Rattle.pd_kinds.specs.Bitmap.{index_block_at}
-use Rattle.pd_kinds.specs.Edge.{is_outside}
-use Rattle.pd_bitmap.proofs.IndexRow.{any_more}
+use Rattle.pd_kinds.specs.Graph.{is_outside}
+use Rattle.pd_bitmap.proofs.Placed.{any_more}
 use Rattle.pd_bitmap.proofs.index.is_bitmap_outside.Goals as goal
 
 pub loop-i-preserved : goal.loop-i-preserved

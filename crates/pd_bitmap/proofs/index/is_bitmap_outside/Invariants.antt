@@ -1,7 +1,7 @@
 use Rattle.std.proofs.Common.{◌≡◌, ℕ, map}
 use Rattle.std.specs.List.{list_any, range_with_len}
 use Rattle.pd_kinds.specs.Bitmap.{index_block_at}
-use Rattle.pd_kinds.specs.Edge.{is_outside}
+use Rattle.pd_kinds.specs.Graph.{is_outside}
 use Rattle.pd_bitmap.proofs.index.is_bitmap_outside.Given as goal
 
 abbrev pub invariant-loop-i : goal.invariant-loop-i

@@ -1,16 +1,17 @@
 use Rattle.std.proofs.Common.{◌≡◌, ◌-◌, ℕ, length, refl, sym, ◌∙◌, ap, arith}
-use Rattle.pd_spells.specs.Need.{need_tree}
-use Rattle.pd_laid.specs.Array.{array_items}
+use Rattle.pd_grammar.specs.Need.{need_tree}
+use Rattle.pd_laid.specs.Laid.{array_items}
+use Rattle.pd_laid.proofs.NeedLemmas.{length-items}
 use Rattle.pd_build.proofs.TreeLemmas.{on_ok}
 use Rattle.pd_build.proofs.BuildingLemmas.{building_start, building_next, building_end, building_root}
-use Rattle.pd_build.proofs.ArrayLemmas.{length-array_items, array_ascends, index_at, index_end}
+use Rattle.pd_build.proofs.ArrayLemmas.{array_ascends, index_at, index_end}
 use Rattle.pd_build.proofs.array.write_index.Goals as goal
 
 pub loop-i-init : goal.loop-i-init
 loop-i-init g c =
     let first = c.next.result - c.args.count in
     let all = array_items first c.args.count in
-    let count : length all ≡ c.args.count = length-array_items first c.args.count in
+    let count : length all ≡ c.args.count = length-items first c.args.count in
     let n = c.in_ok-builder.ensures in
     record {
       same_reference = refl;
@@ -28,7 +29,7 @@ put-requires-clause-more g c =
 pub put-requires-clause-room : goal.put-requires-clause-room
 put-requires-clause-room g c =
     let b = c.loop-i.invariant.building in
-    let same : need_tree 8 (length (array_items (c.next.result - c.args.count) c.args.count)) ≡ need_tree 8 c.args.count = ap (need_tree 8) (length-array_items (c.next.result - c.args.count) c.args.count) in
+    let same : need_tree 8 (length (array_items (c.next.result - c.args.count) c.args.count)) ≡ need_tree 8 c.args.count = ap (need_tree 8) (length-items (c.next.result - c.args.count) c.args.count) in
     omega (arith, c.requires.room, b.room, b.wrote.stays.kept.blocks)
 
 pub loop-i-preserved : goal.loop-i-preserved
@@ -43,7 +44,7 @@ finish-requires-clause-done g c = (index_end (c.next.result - c.args.count) c.ar
 pub finish-requires-clause-room : goal.finish-requires-clause-room
 finish-requires-clause-room g c =
     let b = c.loop-i.invariant.building in
-    let same : need_tree 8 (length (array_items (c.next.result - c.args.count) c.args.count)) ≡ need_tree 8 c.args.count = ap (need_tree 8) (length-array_items (c.next.result - c.args.count) c.args.count) in
+    let same : need_tree 8 (length (array_items (c.next.result - c.args.count) c.args.count)) ≡ need_tree 8 c.args.count = ap (need_tree 8) (length-items (c.next.result - c.args.count) c.args.count) in
     omega (arith, c.requires.room, b.room, b.wrote.stays.kept.blocks)
 
 pub returns-clause-wrote : goal.returns-clause-wrote

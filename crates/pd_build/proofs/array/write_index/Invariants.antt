@@ -1,6 +1,6 @@
 use Rattle.std.proofs.Common.{◌≡◌, drop}
 use Rattle.pd_draft.specs.DraftState.{draft_state}
-use Rattle.pd_laid.specs.Array.{array_items}
+use Rattle.pd_laid.specs.Laid.{array_items}
 use Rattle.pd_build.specs.Building.{IsBuilding}
 use Rattle.pd_build.proofs.array.write_index.Given as goal
 

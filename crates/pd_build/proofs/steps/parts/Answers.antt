@@ -1,5 +1,5 @@
 use Rattle.std.proofs.Common.{arith, sym}
-use Rattle.pd_build.proofs.CountLemmas.{parts_some}
+use Rattle.pd_build.proofs.TakesLemmas.{parts_some}
 use Rattle.pd_build.proofs.steps.parts.Goals as goal
 
 pub returns : goal.returns

@@ -1,11 +1,11 @@
 use Rattle.std.proofs.Common.{◌≡◌, ◌+◌, ◌-◌, ◌<◌, ℕ, List, length, take, drop, get_or, refl, sym, ◌∙◌, ap, arith, subst}
 use Rattle.std.proofs.lemmas.List.{drop-set-lt, length-set, drop-drop}
 use Rattle.pd_kinds.specs.Node.{Entry, inner_block}
-use Rattle.pd_draft.specs.Placed.{Wrote}
+use Rattle.pd_draft.specs.Closed.{Wrote}
 use Rattle.pd_draft.specs.DraftState.{draft_state}
-use Rattle.pd_laid.specs.Tree.{heads, blocks_from}
-use Rattle.pd_spells.specs.Need.{nodes_for}
-use Rattle.pd_build.specs.Rows.{link_entries}
+use Rattle.pd_laid.specs.Laid.{heads, blocks_from}
+use Rattle.pd_grammar.specs.Need.{nodes_for}
+use Rattle.pd_build.specs.Tree.{link_entries}
 use Rattle.pd_build.proofs.UpperLemmas.{IsPart, half_start, half_next, length-links, part_ascends, heads_next, wrote_next, half_moved, all_parts_taken}
 use Rattle.pd_build.proofs.RowLemmas.{wrote_nothing}
 use Rattle.pd_build.proofs.upper.write_level.Goals as goal

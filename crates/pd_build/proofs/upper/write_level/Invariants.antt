@@ -1,9 +1,9 @@
 use Rattle.std.proofs.Common.{◌≡◌, take, drop, length}
 use Rattle.pd_kinds.specs.Node.{inner_block}
-use Rattle.pd_draft.specs.Placed.{Wrote}
+use Rattle.pd_draft.specs.Closed.{Wrote}
 use Rattle.pd_draft.specs.DraftState.{draft_state}
-use Rattle.pd_laid.specs.Tree.{blocks_from, heads, even_parts}
-use Rattle.pd_build.specs.Rows.{link_entries}
+use Rattle.pd_laid.specs.Laid.{blocks_from, heads, even_parts}
+use Rattle.pd_build.specs.Tree.{link_entries}
 use Rattle.pd_build.proofs.UpperLemmas.{IsHalf}
 use Rattle.pd_build.proofs.upper.write_level.Given as goal
 

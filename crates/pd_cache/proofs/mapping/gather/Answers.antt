@@ -1,10 +1,10 @@
 use Rattle.std.proofs.Common.{◌≡◌, ℕ, List, [], ◌∷◌, IfSome, ap, ◌∙◌, arith}
 use Rattle.std.specs.List.{AllByRecursion}
-use Rattle.pd_image.proofs.ReadLemmas.{only_reads_both}
+use Rattle.pd_kinds.proofs.ResultLemmas.{if_then}
+use Rattle.pd_image.proofs.CrashLemmas.{only_reads_both}
 use Rattle.pd_tree.specs.Cursor.{cursor_items}
-use Rattle.pd_tree.specs.Items.{root_of}
+use Rattle.pd_tree.specs.Cursor.{root_of}
 use Rattle.pd_cache.specs.Meeting.{AreMet, IsMapBlock, IsPartMet, blocks_left, blocks_named}
-use Rattle.pd_whole.proofs.RefsLemmas.{if_then}
 use Rattle.pd_cache.proofs.MeetLemmas.{part_end, part_more, seen_few}
 use Rattle.pd_cache.proofs.mapping.gather.Goals as goal
 

@@ -2,7 +2,7 @@ use Rattle.std.proofs.Common.{◌≡◌, ◌+◌, ◌≤◌, [], length, IfSome}
 use Rattle.std.specs.List.{AllByRecursion}
 use Rattle.pd_image.specs.Device.{OnlyReads}
 use Rattle.pd_tree.specs.Cursor.{cursor_nodes, cursor_number}
-use Rattle.pd_cache.specs.Origins.{places_of}
+use Rattle.pd_cache.specs.Meeting.{places_of}
 use Rattle.pd_cache.specs.Meeting.{AreMapBlocks, AreMet, IsMapBlock, IsPartMet, blocks_left, seen_number}
 use Rattle.pd_cache.proofs.mapping.gather.Given as goal
 

@@ -1,6 +1,6 @@
 use Rattle.std.proofs.Common.{ℕ, List, sym, ap, ◌∙◌, subst}
 use Rattle.std.specs.List.{AllByRecursion}
-use Rattle.pd_whole.proofs.RefsLemmas.{if_maps}
+use Rattle.pd_kinds.proofs.ResultLemmas.{if_maps}
 use Rattle.pd_cache.specs.Meeting.{AreMet, IsMapBlock, blocks_named}
 use Rattle.pd_cache.proofs.MeetLemmas.{fresh_met}
 use Rattle.pd_cache.proofs.mapping.is_origin_repeated.Goals as goal

@@ -1,6 +1,6 @@
 use Rattle.std.proofs.Common.{List, [], Option, ℕ, sym, ap, arith}
 use Rattle.std.specs.Option.{unwrap_or}
-use Rattle.pd_whole.proofs.RefsLemmas.{if_all, if_maps}
+use Rattle.pd_kinds.proofs.ResultLemmas.{if_all, if_maps}
 use Rattle.pd_cache.specs.Words.{block_origins}
 use Rattle.pd_cache.proofs.MeetLemmas.{met_first, met_more, seen_few, seen_fewer, seen_more}
 use Rattle.pd_cache.proofs.mapping.meet.Goals as goal

@@ -1,8 +1,8 @@
 use Rattle.std.proofs.Common.{inl, inr, ℕ, ◌≡◌, ◌+◌, ◌-◌, ◌≤◌, ◌++◌, List, length, sym, ap, ◌∙◌, subst, arith, append_assoc, length-append}
 use Rattle.std.proofs.lemmas.Bool.{cases_lt}
 use Rattle.pd_kinds.specs.Array.{word_count}
-use Rattle.pd_array.proofs.ArrayWritten.{counted_below}
-use Rattle.pd_origins.specs.OriginSet.{AreAdded}
+use Rattle.pd_kinds.proofs.KindLemmas.{counted_below}
+use Rattle.pd_meaning_cache.specs.OriginSet.{AreAdded}
 use Rattle.pd_cache.specs.Words.{word_origins}
 use Rattle.pd_cache.proofs.WordLemmas.{few_origins, origins_all, origins_more, origins_to}
 use Rattle.pd_cache.proofs.origins.add_words.Goals as goal

@@ -1,5 +1,5 @@
 use Rattle.std.proofs.Common.{◌≡◌, ℕ, ◌+◌, ◌≤◌, ◌++◌, List, length}
-use Rattle.pd_origins.specs.OriginSet.{AreAdded, others_number, others_room}
+use Rattle.pd_meaning_cache.specs.OriginSet.{AreAdded, others_number, others_room}
 use Rattle.pd_cache.proofs.WordLemmas.{origins_to}
 use Rattle.pd_cache.proofs.origins.add_words.Given as goal
 

@@ -1,12 +1,13 @@
-use Rattle.std.proofs.Common.{◌++◌, [], ◌∷◌, ℕ, List, ap, ◌∙◌, subst, arith}
+use Rattle.std.proofs.Common.{◌++◌, [], ◌∷◌, List, ap, ◌∙◌, subst, arith}
 use Rattle.std.specs.List.{flat_map}
 use Rattle.pd_kinds.specs.Whole.{WholeTest, array_whole, optional_array}
-use Rattle.pd_whole.proofs.RefsLemmas.{if_then, ok_maps}
-use Rattle.pd_whole.specs.Charges.{Charges}
-use Rattle.pd_whole.proofs.ChargeLemmas.{charges_then, keeps_both}
-use Rattle.pd_arrays.specs.Arrays.{array_of}
-use Rattle.pd_arrays.specs.KindReads.{kind_reads}
-use Rattle.pd_arrays.proofs.ReadLemmas.{kind_stays}
+use Rattle.pd_kinds.proofs.ResultLemmas.{if_then}
+use Rattle.pd_check.proofs.RefsLemmas.{ok_maps}
+use Rattle.pd_check.specs.Known.{Charges}
+use Rattle.pd_check.proofs.SharedLemmas.{charges_then, keeps_both}
+use Rattle.pd_check.specs.Arrays.{array_of}
+use Rattle.pd_check.specs.Arrays.{kind_reads}
+use Rattle.pd_check.proofs.ArrayReads.{kind_stays}
 use Rattle.pd_cache.specs.Whole.{discards, dirty_arrays, dirty_bits, hints, mappings}
 use Rattle.pd_cache.proofs.WholeLemmas.{arrays_tests, has_dirty_bits, has_discards, has_hints, has_mappings, if_both, ready_stays}
 use Rattle.pd_cache.proofs.whole.mark_arrays.Goals as goal

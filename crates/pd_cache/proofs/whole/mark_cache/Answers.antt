@@ -1,8 +1,9 @@
 use Rattle.std.proofs.Common.{◌==◌, ℕ, [], ◌∷◌, ◌++◌, List, arith}
 use Rattle.std.specs.List.{flat_map}
 use Rattle.pd_kinds.specs.Whole.{array_whole, bitmap_tests}
-use Rattle.pd_whole.proofs.RefsLemmas.{if_maps, if_then, ok_maps}
-use Rattle.pd_whole.proofs.ChargeLemmas.{charges_then, keeps_both}
+use Rattle.pd_kinds.proofs.ResultLemmas.{if_maps, if_then}
+use Rattle.pd_check.proofs.RefsLemmas.{ok_maps}
+use Rattle.pd_check.proofs.SharedLemmas.{charges_then, keeps_both}
 use Rattle.pd_cache.specs.Whole.{arrays_named, origin_test, tests_named}
 use Rattle.pd_cache.proofs.WholeLemmas.{arrays_stay, has_mappings, ready_stays}
 use Rattle.pd_cache.proofs.whole.mark_cache.Goals as goal

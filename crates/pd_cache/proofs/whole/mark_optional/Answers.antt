@@ -1,10 +1,11 @@
 use Rattle.std.proofs.Common.{[], eq-eqb}
 use Rattle.std.proofs.lemmas.Bool.{ne_eqb}
 use Rattle.pd_kinds.specs.Whole.{array_whole}
-use Rattle.pd_whole.proofs.RefsLemmas.{if_all, if_maps, ok_maps}
-use Rattle.pd_whole.proofs.ChargeLemmas.{charges_none}
-use Rattle.pd_arrays.specs.Arrays.{array_of}
-use Rattle.pd_arrays.proofs.WholeLemmas.{one_array}
+use Rattle.pd_kinds.proofs.ResultLemmas.{if_all, if_maps}
+use Rattle.pd_check.proofs.RefsLemmas.{ok_maps}
+use Rattle.pd_check.proofs.SharedLemmas.{charges_none}
+use Rattle.pd_check.specs.Arrays.{array_of}
+use Rattle.pd_check.proofs.ArrayRules.{one_array}
 use Rattle.pd_cache.proofs.whole.mark_optional.Goals as goal
 
 pub returns-then-root-eq0-clause-charges : goal.returns-then-root-eq0-clause-charges

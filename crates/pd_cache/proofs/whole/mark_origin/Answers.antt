@@ -1,6 +1,6 @@
-use Rattle.pd_whole.proofs.RefsLemmas.{if_maps}
+use Rattle.pd_kinds.proofs.ResultLemmas.{if_maps}
 use Rattle.pd_tree.specs.Below.{items_below}
-use Rattle.pd_tree.specs.Items.{root_of}
+use Rattle.pd_tree.specs.Cursor.{root_of}
 use Rattle.pd_cache.proofs.WholeLemmas.{origin_charged}
 use Rattle.pd_cache.proofs.whole.mark_origin.Goals as goal
 

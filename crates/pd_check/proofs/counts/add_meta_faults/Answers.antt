@@ -1,5 +1,5 @@
 use Rattle.std.proofs.Common.{ap, ◌∙◌, sym, arith}
-use Rattle.pd_kinds.specs.declared.map_root.SmRoot.{SmRoot}
+use Rattle.pd_kinds.specs.declared.superblocks.SmRoot.{SmRoot}
 use Rattle.pd_check.proofs.CountLemmas.{map_number, meta_told, on_ok}
 use Rattle.pd_check.proofs.counts.add_meta_faults.Goals as goal
 

@@ -1,5 +1,5 @@
 use Rattle.std.proofs.Common.{◌≡◌, Some, None, ◌∙◌, sym, arith}
-use Rattle.pd_check.specs.ByKind.{data_space_of, graph_of_super}
+use Rattle.pd_check.specs.Check.{data_space_of, graph_of_super}
 use Rattle.pd_check.proofs.CountLemmas.{counts_space, data_number, no_space, ok_if}
 use Rattle.pd_check.proofs.counts.ref_counter.Goals as goal
 

@@ -1,9 +1,9 @@
 use Rattle.std.proofs.Common.{◌∙◌, arith}
+use Rattle.pd_kinds.proofs.ResultLemmas.{if_both}
 use Rattle.pd_graph.specs.Walk.{IsWalked}
-use Rattle.pd_graph.proofs.AnyLemmas.{if_both}
 use Rattle.pd_settle.specs.Settled.{IsSettled}
-use Rattle.pd_settle.proofs.FirstLemmas.{inner_few}
-use Rattle.pd_check.proofs.WalkReport.{settled_report}
+use Rattle.pd_settle.proofs.RoleLemmas.{inner_few}
+use Rattle.pd_check.proofs.CheckLemmas.{settled_report}
 use Rattle.pd_check.proofs.WholeLemmas.{well_settled}
 use Rattle.pd_check.proofs.later_stages.order_report.Goals as goal
 

@@ -1,11 +1,11 @@
 use Rattle.std.proofs.Common.{◌≡◌, Bool, ◌&&◌, nat_eq, IfSome, ap, sym, subst, ◌∙◌}
 use Rattle.std.proofs.lemmas.Bool.{and_parts, eqb-true}
-use Rattle.pd_kinds.specs.Report.{report_of}
+use Rattle.pd_kinds.specs.Rule.{report_of}
 use Rattle.pd_kinds.specs.Stages.{block_faults, order_bad}
 use Rattle.pd_graph.specs.Audit.{blocks_of}
 use Rattle.pd_graph.specs.Walk.{IsWalked}
-use Rattle.pd_whole.specs.Known.{IsWellSettled}
-use Rattle.pd_check.proofs.WalkReport.{walked_report, none_reported, first_reported, second_reported}
+use Rattle.pd_check.specs.Known.{IsWellSettled}
+use Rattle.pd_check.proofs.CheckLemmas.{walked_report, none_reported, first_reported, second_reported}
 use Rattle.pd_check.proofs.WholeLemmas.{not_settled, settled_from}
 use Rattle.pd_check.proofs.later_stages.walk_and_settle.Goals as goal
 

@@ -1,7 +1,7 @@
 use Rattle.std.proofs.Common.{ap, sym, ◌∙◌, eq-eqb}
 use Rattle.std.proofs.lemmas.Bool.{eqb-true, both_ways}
 use Rattle.pd_kinds.specs.Graph.{Graph}
-use Rattle.pd_check.proofs.WalkReport.{none_reported}
+use Rattle.pd_check.proofs.CheckLemmas.{none_reported}
 use Rattle.pd_check.proofs.WholeLemmas.{first_seen, in_order, is_settled, shown, whole_first, whole_known, whole_reads, whole_second}
 use Rattle.pd_check.proofs.whole.check_whole_watched.Goals as goal
 

@@ -1,8 +1,8 @@
 use Rattle.std.proofs.Common.{◌∙◌}
+use Rattle.pd_kinds.proofs.ResultLemmas.{if_maps}
 use Rattle.pd_check.proofs.WholeLemmas.{charged_report}
-use Rattle.pd_whole.proofs.RefsLemmas.{if_maps}
-use Rattle.pd_whole.proofs.KnownLemmas.{known_stays}
-use Rattle.pd_check.specs.ByKind.{graph_of_super}
+use Rattle.pd_check.proofs.KnownLemmas.{known_stays}
+use Rattle.pd_check.specs.Check.{graph_of_super}
 use Rattle.pd_check.proofs.whole.whole_report.Goals as goal
 
 pub returns-clause-report : goal.returns-clause-report

@@ -1,5 +1,5 @@
 use Rattle.std.proofs.Common.{◌≡◌, ℕ, ◌+◌, ◌<◌}
-use Rattle.pd_count.specs.Forms.{digits_number}
+use Rattle.pd_count.specs.Counted.{digits_number}
 use Rattle.pd_count.proofs.dense.are_all.Given as goal
 
 -- the places before this one have the number

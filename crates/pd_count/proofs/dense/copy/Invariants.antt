@@ -1,5 +1,5 @@
 use Rattle.std.proofs.Common.{◌≡◌, ℕ, ◌<◌, length, get_or}
-use Rattle.pd_count.specs.Forms.{digits_number}
+use Rattle.pd_count.specs.Counted.{digits_number}
 use Rattle.pd_count.proofs.dense.copy.Given as goal
 
 abbrev pub invariant-loop-at : goal.invariant-loop-at

@@ -1,5 +1,5 @@
 use Rattle.std.proofs.Common.{ℕ, ◌<◌, ◌≤◌}
-use Rattle.pd_count.specs.Forms.{digits_number}
+use Rattle.pd_count.specs.Counted.{digits_number}
 use Rattle.pd_count.proofs.dense.first.Given as goal
 
 abbrev pub invariant-loop-at : goal.invariant-loop-at

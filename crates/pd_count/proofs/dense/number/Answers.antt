@@ -1,6 +1,6 @@
 use Rattle.std.proofs.Common.{◌∙◌, sym, ap₂, ℕ, ◌+◌, ◌*◌, arith}
-use Rattle.pd_count.specs.Forms.{digits_number}
-use Rattle.pd_count.proofs.DigitLemmas.{low_digit}
+use Rattle.pd_count.specs.Counted.{digits_number}
+use Rattle.pd_count.proofs.FormLemmas.{low_digit}
 use Rattle.pd_count.proofs.dense.number.Goals as goal
 
 pub returns-then-digits-eq-CHUNK_COUNTS : goal.returns-then-digits-eq-CHUNK_COUNTS

@@ -1,4 +1,4 @@
-use Rattle.pd_count.proofs.DigitLemmas.{raised}
+use Rattle.pd_count.proofs.FormLemmas.{raised}
 use Rattle.pd_count.proofs.dense.raise.Goals as goal
 
 pub returns-then-room-clause-raised : goal.returns-then-room-clause-raised

@@ -1,15 +1,15 @@
 use Rattle.std.proofs.Common.{◌∙◌, ap, List, ℕ, get_or}
 use Rattle.std.proofs.lemmas.List.{take_all}
 use Rattle.pd_count.specs.declared.few.Entry.{Entry}
-use Rattle.pd_count.specs.Forms.{digits_number, entered}
-use Rattle.pd_count.proofs.DigitLemmas.{no_digits}
+use Rattle.pd_count.specs.Counted.{digits_number, entered}
+use Rattle.pd_count.proofs.FormLemmas.{no_digits}
 use Rattle.pd_count.proofs.EntryLemmas.{entered_put}
 use Rattle.pd_count.proofs.dense.spread.Goals as goal
 
 pub loop-i-init : goal.loop-i-init
 loop-i-init c = (
-  c.in_ok-make_room.ensures.digits,
-  λ k below. no_digits c.make_room.new.digits.items k (λ i. c.make_room.ensures.same i ∙ ap (λ (xs : List ℕ). get_or xs i 0) c.new-digits.ensures.items),
+  c.in_ok-take_memory.ensures.digits,
+  λ k below. no_digits c.take_memory.new.digits.items k (λ i. c.take_memory.ensures.same i ∙ ap (λ (xs : List ℕ). get_or xs i 0) c.new-digits.ensures.items),
 )
 
 pub loop-i-preserved : goal.loop-i-preserved

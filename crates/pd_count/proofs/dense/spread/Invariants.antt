@@ -1,5 +1,5 @@
 use Rattle.std.proofs.Common.{◌≡◌, ℕ, ◌<◌, take}
-use Rattle.pd_count.specs.Forms.{AreDigits, digits_number, entered}
+use Rattle.pd_count.specs.Counted.{AreDigits, digits_number, entered}
 use Rattle.pd_count.proofs.dense.spread.Given as goal
 
 -- the digits are those of the entries before this one

@@ -1,4 +1,4 @@
-use Rattle.pd_count.proofs.DigitLemmas.{written}
+use Rattle.pd_count.proofs.FormLemmas.{written}
 use Rattle.pd_count.proofs.dense.write.Goals as goal
 
 pub returns-clause-put : goal.returns-clause-put

@@ -1,5 +1,5 @@
-use Rattle.pd_count.specs.Forms.{digits_number}
-use Rattle.pd_count.proofs.DigitLemmas.{zeros_more}
+use Rattle.pd_count.specs.Counted.{digits_number}
+use Rattle.pd_count.proofs.FormLemmas.{zeros_more}
 use Rattle.pd_count.proofs.dense.zeros.Goals as goal
 
 pub loop-at-preserved : goal.loop-at-preserved

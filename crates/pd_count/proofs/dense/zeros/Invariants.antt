@@ -1,6 +1,6 @@
 use Rattle.std.proofs.Common.{◌≡◌, ◌≤◌, eqb, map}
 use Rattle.std.specs.List.{count_by, range_with_len}
-use Rattle.pd_count.specs.Forms.{digits_number}
+use Rattle.pd_count.specs.Counted.{digits_number}
 use Rattle.pd_count.proofs.dense.zeros.Given as goal
 
 abbrev pub invariant-loop-at : goal.invariant-loop-at

@@ -1,5 +1,5 @@
 use Rattle.std.proofs.Common.{ℕ, ◌<◌, ◌≤◌}
-use Rattle.pd_count.specs.Forms.{place_at}
+use Rattle.pd_count.specs.Counted.{place_at}
 use Rattle.pd_count.proofs.EntryLemmas.{number_at}
 use Rattle.pd_count.proofs.few.first_entered.Given as goal
 

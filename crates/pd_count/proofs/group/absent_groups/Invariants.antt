@@ -1,5 +1,5 @@
 use Rattle.std.proofs.Common.{◌≡◌, ℕ, length, slice_index_or}
-use Rattle.pd_count.specs.Groups.{no_group}
+use Rattle.pd_count.specs.Counted.{no_group}
 use Rattle.pd_count.proofs.group.absent_groups.Given as goal
 
 abbrev pub invariant-loop : goal.invariant-loop

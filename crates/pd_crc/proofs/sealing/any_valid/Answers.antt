@@ -1,5 +1,5 @@
 use Rattle.std.proofs.lemmas.Bool.{ne_eqb}
-use Rattle.pd_crc.proofs.Supers.{is_valid_super-kind}
+use Rattle.pd_crc.proofs.Sealed.{is_valid_super-kind}
 use Rattle.pd_crc.proofs.sealing.any_valid.Goals as goal
 
 pub returns-then-u64_at-eq0 : goal.returns-then-u64_at-eq0

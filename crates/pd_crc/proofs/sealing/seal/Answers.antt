@@ -1,5 +1,5 @@
 use Rattle.std.proofs.Common.{rules, ◌≡◌, ◌<◌, ◌^◌, length, arith}
-use Rattle.pd_kinds.specs.Checksum.{checksum, sealed}
+use Rattle.pd_kinds.specs.Field.{checksum, sealed}
 use Rattle.pd_kinds.proofs.WrittenLemmas.{has_checksum-sealed}
 use Rattle.pd_crc.proofs.sealing.seal.Goals as goal
 

@@ -1,6 +1,6 @@
 use Rattle.std.proofs.Common.{arith, ap}
-use Rattle.pd_spells.specs.Need.{nodes_of_tree}
-use Rattle.pd_devices.specs.Need.{need_of_trees}
+use Rattle.pd_grammar.specs.Need.{nodes_of_tree}
+use Rattle.pd_devices.specs.Gathered.{need_of_trees}
 use Rattle.pd_devices.proofs.need.need_of.Goals as goal
 
 pub returns : goal.returns

@@ -1,8 +1,8 @@
 use Rattle.std.proofs.Common.{◌≡◌, ◌-◌, ◌^◌, ℕ, List, min, length, take, sum_by, sym, ◌∙◌, ap, arith}
 use Rattle.std.proofs.lemmas.List.{take_all}
-use Rattle.pd_spells.specs.Need.{need_tree}
-use Rattle.pd_devices.specs.Need.{need_of_trees}
-use Rattle.pd_devices.proofs.NeedLemmas.{need_by_sum, need_capped}
+use Rattle.pd_grammar.specs.Need.{need_tree}
+use Rattle.pd_devices.specs.Gathered.{need_of_trees}
+use Rattle.pd_devices.proofs.DeviceLemmas.{need_by_sum, need_capped}
 use Rattle.pd_devices.proofs.need.need_thin.Goals as goal
 
 pub returns : goal.returns

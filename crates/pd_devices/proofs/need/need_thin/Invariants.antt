@@ -1,5 +1,5 @@
 use Rattle.std.proofs.Common.{◌≡◌, ◌-◌, ◌^◌, min, sum_by, take}
-use Rattle.pd_spells.specs.Need.{need_tree}
+use Rattle.pd_grammar.specs.Need.{need_tree}
 use Rattle.pd_devices.proofs.need.need_thin.Given as goal
 
 abbrev pub invariant-loop-mapped : goal.invariant-loop-mapped

@@ -1,5 +1,5 @@
 use Rattle.pd_kinds.specs.declared.kind.Stage.TheVariants.{Whole}
-use Rattle.pd_cache_meaning.proofs.SoundCache.{blocks_fit}
+use Rattle.pd_meaning_cache.proofs.SoundCache.{blocks_fit}
 use Rattle.pd_dumps.proofs.CacheMeaningLemmas.{text_is}
 use Rattle.pd_dumps.proofs.laws.given_cache_lines_are_the_text.Goals as goal
 

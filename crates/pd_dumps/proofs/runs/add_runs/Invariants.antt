@@ -1,9 +1,9 @@
 use Rattle.std.proofs.Common.{◌≡◌, ◌+◌, ◌^◌, ◌<◌, map}
 use Rattle.pd_image.specs.Device.{OnlyReads}
 use Rattle.pd_lines.specs.Printer.{printing}
-use Rattle.pd_era_meaning.specs.Parts.{blocks_left, eras_left}
-use Rattle.pd_query.proofs.PutsLemmas.{PrintsSoFar}
-use Rattle.pd_dumps.specs.Runs.{end_of, text_from}
+use Rattle.pd_meaning_era.specs.Parts.{blocks_left, eras_left}
+use Rattle.pd_query.proofs.QueryLemmas.{PrintsSoFar}
+use Rattle.pd_dumps.specs.EraLines.{end_of, text_from}
 use Rattle.pd_dumps.proofs.runs.add_runs.Given as goal
 
 abbrev pub invariant-loop-run : goal.invariant-loop-run

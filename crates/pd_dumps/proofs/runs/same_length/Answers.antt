@@ -1,5 +1,5 @@
 use Rattle.std.proofs.Common.{sym, ◌∙◌}
-use Rattle.pd_dumps.proofs.OpenRunLemmas.{value_more}
+use Rattle.pd_dumps.proofs.EraLemmas.{value_more}
 use Rattle.pd_dumps.proofs.runs.same_length.Goals as goal
 
 pub loop-i-preserved : goal.loop-i-preserved

@@ -1,5 +1,5 @@
 use Rattle.std.proofs.Common.{◌≡◌, map, take}
-use Rattle.pd_spells.specs.EraText.{eras_from}
+use Rattle.pd_grammar.specs.EraText.{eras_from}
 use Rattle.pd_dumps.proofs.runs.same_length.Given as goal
 
 abbrev pub invariant-loop-i : goal.invariant-loop-i

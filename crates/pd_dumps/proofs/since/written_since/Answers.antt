@@ -2,11 +2,11 @@ use Rattle.std.proofs.Common.{List, ℕ, refl, ◌∙◌, ap, subst, sym}
 use Rattle.std.proofs.lemmas.Result.{err_from_is_err_and}
 use Rattle.pd_kinds.specs.Meaning.{era_meaning}
 use Rattle.pd_answers.specs.QueryLines.{since_lines}
-use Rattle.pd_query.proofs.PutsLemmas.{one_told}
+use Rattle.pd_query.proofs.QueryLemmas.{one_told}
 use Rattle.pd_query.proofs.QueryLemmas.{puts_as, puts_none}
-use Rattle.pd_query.specs.Puts.{PutsText}
-use Rattle.pd_era_meaning.specs.Eras.{eras_below}
-use Rattle.pd_era_meaning.specs.Parts.{eras_left}
+use Rattle.pd_query.specs.Query.{PutsText}
+use Rattle.pd_meaning_era.specs.Eras.{eras_below}
+use Rattle.pd_meaning_era.specs.Parts.{eras_left}
 use Rattle.pd_dumps.specs.SinceLines.{since_text}
 use Rattle.pd_dumps.proofs.SinceLemmas.{lines_are}
 use Rattle.pd_dumps.proofs.since.written_since.Goals as goal

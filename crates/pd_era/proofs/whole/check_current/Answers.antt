@@ -1,8 +1,8 @@
 use Rattle.std.proofs.Common.{eq-eqb}
 use Rattle.std.proofs.lemmas.Bool.{ne_eqb}
 use Rattle.pd_kinds.specs.Whole.{array_whole, writeset_array}
-use Rattle.pd_whole.proofs.ChargeLemmas.{charges_none}
-use Rattle.pd_arrays.proofs.WholeLemmas.{one_array}
+use Rattle.pd_check.proofs.SharedLemmas.{charges_none}
+use Rattle.pd_check.proofs.ArrayRules.{one_array}
 use Rattle.pd_era.proofs.whole.check_current.Goals as goal
 
 pub returns-else-root-ne0-clause-charges : goal.returns-else-root-ne0-clause-charges

@@ -1,13 +1,14 @@
 use Rattle.std.proofs.Common.{ap, ◌∙◌, arith}
 use Rattle.std.specs.List.{flat_map}
 use Rattle.pd_kinds.specs.Whole.{array_whole, reached_writesets}
+use Rattle.pd_kinds.proofs.ResultLemmas.{if_then}
 use Rattle.pd_graph.specs.Audit.{blocks_of}
-use Rattle.pd_whole.specs.Refs.{number_in}
-use Rattle.pd_whole.proofs.RefsLemmas.{if_then, ok_maps}
-use Rattle.pd_whole.proofs.ChargeLemmas.{charges_then}
-use Rattle.pd_arrays.specs.KindReads.{kind_reads}
-use Rattle.pd_arrays.proofs.JudgeLemmas.{arrays_stay}
-use Rattle.pd_arrays.proofs.ReadLemmas.{number_stays}
+use Rattle.pd_check.specs.Refs.{number_in}
+use Rattle.pd_check.proofs.RefsLemmas.{ok_maps}
+use Rattle.pd_check.proofs.SharedLemmas.{charges_then}
+use Rattle.pd_check.specs.Arrays.{kind_reads}
+use Rattle.pd_check.proofs.ArrayRules.{arrays_stay}
+use Rattle.pd_check.proofs.ArrayReads.{number_stays}
 use Rattle.pd_era.specs.Whole.{bits, current_bits, set_tests}
 use Rattle.pd_era.proofs.WholeLemmas.{has_bits}
 use Rattle.pd_era.proofs.whole.mark_bits.Goals as goal

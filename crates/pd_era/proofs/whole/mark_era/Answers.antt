@@ -1,13 +1,14 @@
 use Rattle.std.proofs.Common.{◌==◌, ◌∷◌, [], ◌++◌, List, ap, ◌∙◌, subst, arith}
 use Rattle.std.specs.List.{flat_map}
 use Rattle.pd_kinds.specs.Whole.{WholeTest, array_whole, bitmap_tests, reached_writesets}
+use Rattle.pd_kinds.proofs.ResultLemmas.{if_then}
 use Rattle.pd_graph.specs.Audit.{blocks_of}
-use Rattle.pd_whole.specs.Refs.{number_in}
-use Rattle.pd_whole.proofs.RefsLemmas.{if_then, ok_maps}
-use Rattle.pd_whole.specs.Charges.{Charges}
-use Rattle.pd_whole.proofs.ChargeLemmas.{charges_then, keeps_both}
-use Rattle.pd_arrays.specs.Arrays.{array_of}
-use Rattle.pd_arrays.proofs.ReadLemmas.{kind_stays, number_stays}
+use Rattle.pd_check.specs.Refs.{number_in}
+use Rattle.pd_check.proofs.RefsLemmas.{ok_maps}
+use Rattle.pd_check.specs.Known.{Charges}
+use Rattle.pd_check.proofs.SharedLemmas.{charges_then, keeps_both}
+use Rattle.pd_check.specs.Arrays.{array_of}
+use Rattle.pd_check.proofs.ArrayReads.{kind_stays, number_stays}
 use Rattle.pd_era.specs.Whole.{arrays_named, bits, current_bits, eras, set_tests, snap_eras, tests_named}
 use Rattle.pd_era.proofs.WholeLemmas.{arrays_tests, ready_stays}
 use Rattle.pd_era.proofs.whole.mark_era.Goals as goal

@@ -1,11 +1,12 @@
 use Rattle.std.proofs.Common.{ap, arith, [], ◌∷◌}
 use Rattle.std.specs.List.{flat_map}
 use Rattle.pd_kinds.specs.Whole.{array_whole}
-use Rattle.pd_whole.proofs.RefsLemmas.{if_then, ok_maps}
-use Rattle.pd_whole.proofs.ChargeLemmas.{charges_then}
-use Rattle.pd_arrays.specs.Arrays.{array_of}
-use Rattle.pd_arrays.specs.KindReads.{kind_reads}
-use Rattle.pd_arrays.proofs.JudgeLemmas.{arrays_stay}
+use Rattle.pd_kinds.proofs.ResultLemmas.{if_then}
+use Rattle.pd_check.proofs.RefsLemmas.{ok_maps}
+use Rattle.pd_check.proofs.SharedLemmas.{charges_then}
+use Rattle.pd_check.specs.Arrays.{array_of}
+use Rattle.pd_check.specs.Arrays.{kind_reads}
+use Rattle.pd_check.proofs.ArrayRules.{arrays_stay}
 use Rattle.pd_era.specs.Whole.{eras, snap_eras}
 use Rattle.pd_era.proofs.WholeLemmas.{has_eras}
 use Rattle.pd_era.proofs.whole.mark_eras.Goals as goal

@@ -4,9 +4,9 @@ use Rattle.pd_kinds.specs.Node.{Entry, is_inner_node}
 use Rattle.pd_kinds.specs.Stages.{IsReached}
 use Rattle.pd_kinds.specs.Whole.{array_whole, writeset_array}
 use Rattle.pd_value.specs.declared.era.Writeset.{Writeset}
-use Rattle.pd_whole.specs.Charges.{Charges}
-use Rattle.pd_whole.proofs.ChargeLemmas.{keeps_both, keeps_none}
-use Rattle.pd_arrays.proofs.JudgeLemmas.{arrays_stay}
+use Rattle.pd_check.specs.Known.{Charges}
+use Rattle.pd_check.proofs.SharedLemmas.{keeps_both, keeps_none}
+use Rattle.pd_check.proofs.ArrayRules.{arrays_stay}
 use Rattle.pd_era.specs.Whole.{bits, first_sets, set_tests}
 use Rattle.pd_era.proofs.SetLemmas.{first_at, first_more, first_none, leaf_is, no_leaf, set_at, set_one, sets_none, sets_then}
 use Rattle.pd_era.proofs.writesets.check_leaf.Goals as goal

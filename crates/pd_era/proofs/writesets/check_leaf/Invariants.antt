@@ -6,8 +6,8 @@ use Rattle.pd_kinds.specs.Layout.{leaf_entries}
 use Rattle.pd_kinds.specs.Node.{Entry}
 use Rattle.pd_kinds.specs.Stages.{IsReached}
 use Rattle.pd_graph.specs.Audit.{KeepsButRules}
-use Rattle.pd_whole.specs.Charges.{Charges}
-use Rattle.pd_arrays.specs.Arrays.{AreMarked, HasArrays}
+use Rattle.pd_check.specs.Known.{Charges}
+use Rattle.pd_check.specs.Arrays.{AreMarked, HasArrays}
 use Rattle.pd_era.specs.Whole.{bits, first_sets, set_tests}
 use Rattle.pd_era.proofs.writesets.check_leaf.Given as goal
 

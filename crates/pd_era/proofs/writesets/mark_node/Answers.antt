@@ -2,9 +2,10 @@ use Rattle.std.proofs.Common.{◌≡◌, ℕ, ◌<◌, ◌+◌, List, [], Option
 use Rattle.std.specs.Option.{unwrap_or}
 use Rattle.pd_kinds.specs.Graph.{block_at}
 use Rattle.pd_kinds.specs.Stages.{IsReached}
-use Rattle.pd_graph.specs.Roles.{has_bit}
-use Rattle.pd_whole.specs.Refs.{number_in}
-use Rattle.pd_whole.proofs.RefsLemmas.{if_all, if_maps, number_more}
+use Rattle.pd_kinds.proofs.ResultLemmas.{if_all, if_maps}
+use Rattle.pd_graph.specs.Marks.{has_bit}
+use Rattle.pd_check.specs.Refs.{number_in}
+use Rattle.pd_check.proofs.RefsLemmas.{number_more}
 use Rattle.pd_era.proofs.SetLemmas.{sets_lead, sets_none}
 use Rattle.pd_era.proofs.writesets.mark_node.Goals as goal
 

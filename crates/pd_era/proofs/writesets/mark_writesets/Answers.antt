@@ -1,12 +1,13 @@
 use Rattle.std.proofs.Common.{◌≡◌, ◌+◌, ◌-◌, ◌≤◌, List, ap, ◌∙◌, subst, arith, rules}
 use Rattle.pd_kinds.specs.Node.{Entry}
+use Rattle.pd_kinds.proofs.ResultLemmas.{if_all, if_maps, if_then}
 use Rattle.pd_graph.specs.Audit.{blocks_of}
-use Rattle.pd_whole.specs.Refs.{number_in}
-use Rattle.pd_whole.proofs.RefsLemmas.{if_all, if_maps, if_then, number_grows}
-use Rattle.pd_whole.specs.Charges.{Charges}
-use Rattle.pd_whole.proofs.ChargeLemmas.{keeps_both, keeps_none}
-use Rattle.pd_arrays.proofs.JudgeLemmas.{arrays_stay}
-use Rattle.pd_arrays.proofs.ReadLemmas.{number_stays}
+use Rattle.pd_check.specs.Refs.{number_in}
+use Rattle.pd_check.proofs.RefsLemmas.{number_grows}
+use Rattle.pd_check.specs.Known.{Charges}
+use Rattle.pd_check.proofs.SharedLemmas.{keeps_both, keeps_none}
+use Rattle.pd_check.proofs.ArrayRules.{arrays_stay}
+use Rattle.pd_check.proofs.ArrayReads.{number_stays}
 use Rattle.pd_era.specs.Whole.{bits, set_tests, sets_at, sets_before}
 use Rattle.pd_era.proofs.SetLemmas.{all_sets, no_sets, sets_more, sets_none, sets_then}
 use Rattle.pd_era.proofs.writesets.mark_writesets.Goals as goal

@@ -2,10 +2,10 @@ use Rattle.std.proofs.Common.{◌≡◌, ◌+◌, ◌≤◌, IfSome}
 use Rattle.pd_kinds.specs.Graph.{Graph}
 use Rattle.pd_image.specs.Device.{OnlyReads}
 use Rattle.pd_graph.specs.Audit.{KeepsButRules}
-use Rattle.pd_whole.specs.Refs.{number_in}
-use Rattle.pd_tree.specs.TreeRoles.{HasEraTrees}
-use Rattle.pd_whole.specs.Charges.{Charges}
-use Rattle.pd_arrays.specs.Arrays.{AreMarked, HasArrays}
+use Rattle.pd_check.specs.Refs.{number_in}
+use Rattle.pd_tree.specs.Search.{HasEraTrees}
+use Rattle.pd_check.specs.Known.{Charges}
+use Rattle.pd_check.specs.Arrays.{AreMarked, HasArrays}
 use Rattle.pd_era.specs.Whole.{bits, set_tests, sets_before}
 use Rattle.pd_era.proofs.writesets.mark_writesets.Given as goal
 

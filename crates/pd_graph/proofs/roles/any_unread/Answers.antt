@@ -1,5 +1,5 @@
 use Rattle.std.proofs.Common.{arith}
-use Rattle.pd_graph.specs.BlockTable.{values_of}
+use Rattle.pd_graph.specs.Marks.{values_of}
 use Rattle.pd_graph.proofs.BitLemmas.{all_read}
 use Rattle.pd_graph.proofs.roles.any_unread.Goals as goal
 

@@ -1,6 +1,6 @@
 use Rattle.std.proofs.Common.{◌≡◌, ℕ, ◌<◌, true, get_or}
-use Rattle.pd_graph.specs.Roles.{has_bit}
-use Rattle.pd_graph.specs.BlockTable.{values_of}
+use Rattle.pd_graph.specs.Marks.{has_bit}
+use Rattle.pd_graph.specs.Marks.{values_of}
 use Rattle.pd_graph.proofs.roles.any_unread.Given as goal
 
 abbrev pub invariant-loop-b : goal.invariant-loop-b

@@ -1,5 +1,5 @@
 use Rattle.std.proofs.Common.{◌≡◌, ℕ, ◌<◌, true}
-use Rattle.pd_graph.specs.Roles.{has_bit}
+use Rattle.pd_graph.specs.Marks.{has_bit}
 use Rattle.pd_graph.proofs.roles.first_unread.Given as goal
 
 abbrev pub invariant-loop-role : goal.invariant-loop-role

@@ -1,6 +1,6 @@
 use Rattle.std.proofs.Common.{ℕ, ap, ◌∙◌, arith}
-use Rattle.pd_graph.specs.Roles.{has_bit}
-use Rattle.pd_graph.specs.BlockTable.{values_of}
+use Rattle.pd_graph.specs.Marks.{has_bit}
+use Rattle.pd_graph.specs.Marks.{values_of}
 use Rattle.pd_graph.proofs.BitLemmas.{is_in-pair}
 use Rattle.pd_graph.proofs.roles.unread_at.Goals as goal
 

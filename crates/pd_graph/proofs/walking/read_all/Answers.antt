@@ -2,13 +2,13 @@ use Rattle.std.proofs.Common.{◌≡◌, ℕ, List, [], Some, IfSome, ap, subst,
 use Rattle.std.specs.List.{slice_get}
 use Rattle.std.specs.Option.{unwrap_or}
 use Rattle.std.proofs.lemmas.Option.{IfSome_then}
-use Rattle.pd_image.proofs.ReadLemmas.{only_reads_both}
+use Rattle.pd_kinds.proofs.ResultLemmas.{if_both}
+use Rattle.pd_image.proofs.CrashLemmas.{only_reads_both}
 use Rattle.pd_graph.specs.Walk.{IsDone}
-use Rattle.pd_graph.specs.Roles.{is_in}
+use Rattle.pd_graph.specs.Marks.{is_in}
 use Rattle.pd_graph.specs.Marks.{read_of}
 use Rattle.pd_graph.specs.Notes.{note_in}
 use Rattle.pd_graph.proofs.LeafNotes.{noted_more, low_more, noted_same}
-use Rattle.pd_graph.proofs.AnyLemmas.{if_both}
 use Rattle.pd_graph.proofs.WalkLemmas.{taken_known, safe_step, told_step, one_more_read, read_kept, read_at_most, taken_reached, read_reached, room_taken, safe_kept, told_kept, all_read_kept}
 use Rattle.pd_graph.proofs.walking.read_all.Goals as goal
 

@@ -1,6 +1,6 @@
 use Rattle.std.proofs.Common.{◌≡◌, ℕ, ◌+◌, ◌-◌, ◌*◌, ◌≤◌, IfSome}
 use Rattle.pd_image.specs.Device.{OnlyReads}
-use Rattle.pd_graph.specs.Roles.{is_in}
+use Rattle.pd_graph.specs.Marks.{is_in}
 use Rattle.pd_graph.specs.Notes.{size_of, note_in}
 use Rattle.pd_graph.specs.Marks.{read_of}
 use Rattle.pd_graph.specs.Walk.{IsSafe, IsTold, AreLeavesNoted, read_number}

@@ -1,12 +1,12 @@
 use Rattle.std.proofs.Common.{ℕ, sym, subst}
 use Rattle.std.proofs.lemmas.Option.{IfSome_then}
 use Rattle.pd_kinds.specs.Graph.{is_reached}
-use Rattle.pd_graph.specs.Roles.{is_in}
+use Rattle.pd_kinds.proofs.ResultLemmas.{if_any, if_both}
+use Rattle.pd_graph.specs.Marks.{is_in}
 use Rattle.pd_graph.specs.Notes.{note_in}
 use Rattle.pd_graph.specs.Marks.{HasPlaces, read_of}
-use Rattle.pd_graph.specs.Watch.{no_pairs}
+use Rattle.pd_graph.specs.Format.{no_pairs}
 use Rattle.pd_graph.proofs.LeafNotes.{start_noted, none_low, noted_same}
-use Rattle.pd_graph.proofs.AnyLemmas.{if_any, if_both}
 use Rattle.pd_graph.proofs.StartLemmas.{none_read, read_is_reached, start_number, start_safe, start_told, end_roles, end_rules, end_counts}
 use Rattle.pd_graph.proofs.walking.walk_watched.Goals as goal
 

@@ -2,7 +2,7 @@ use Rattle.std.proofs.Common.{◌≡◌, ◌++◌, ◌∷◌, ◌∙◌, [], Lis
 use Rattle.std.proofs.Math.Seq.{take-suc}
 use Rattle.std.proofs.lemmas.List.Elements.{All-append, All-replicate}
 use Rattle.pd_kinds.specs.declared.block.Block.{Block}
-use Rattle.pd_image.specs.Blocks.{AreWhole, IsWhole}
+use Rattle.pd_image.specs.Step.{AreWhole, IsWhole}
 use Rattle.pd_image.proofs.mem_device.copied.Goals as goal
 
 pub loop-block-preserved : goal.loop-block-preserved

@@ -1,5 +1,5 @@
 use Rattle.std.proofs.Common.{◌≡◌, take}
-use Rattle.pd_image.specs.Blocks.{AreWhole}
+use Rattle.pd_image.specs.Step.{AreWhole}
 use Rattle.pd_image.proofs.mem_device.copied.Given as goal
 
 abbrev pub invariant-loop-block : goal.invariant-loop-block

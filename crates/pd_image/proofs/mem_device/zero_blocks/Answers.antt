@@ -1,6 +1,6 @@
 use Rattle.std.proofs.Common.{◌≡◌, replicate, subst, sym, rules}
 use Rattle.std.proofs.lemmas.List.Elements.{All-replicate}
-use Rattle.pd_image.specs.Blocks.{IsWhole, AreWhole}
+use Rattle.pd_image.specs.Step.{IsWhole, AreWhole}
 use Rattle.pd_image.proofs.BlockLemmas.{block_bytes-replicate}
 use Rattle.pd_image.proofs.mem_device.zero_blocks.Goals as goal
 

@@ -1,7 +1,7 @@
 use Rattle.std.proofs.Common.{◌≡◌, max, take}
 use Rattle.std.specs.List.{flat_map}
 use Rattle.std.specs.Prelude.{fold}
-use Rattle.pd_kept.specs.Latest.{own_times}
+use Rattle.pd_kept.specs.Kept.{own_times}
 use Rattle.pd_kept.proofs.latest.latest_of_devices.Given as goal
 
 abbrev pub invariant-loop-device : goal.invariant-loop-device

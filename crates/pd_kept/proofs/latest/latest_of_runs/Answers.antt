@@ -1,8 +1,8 @@
 use Rattle.std.proofs.Common.{List, max, ap, sym, ◌∙◌}
 use Rattle.std.specs.Prelude.{fold}
-use Rattle.pd_runs.specs.Places.{runs_from}
-use Rattle.pd_thin_meaning.specs.declared.joined.Run.{Run}
-use Rattle.pd_kept.specs.Latest.{times_of_runs}
+use Rattle.pd_meaning_thin.specs.Packed.{runs_from}
+use Rattle.pd_meaning_thin.specs.declared.joined.Run.{Run}
+use Rattle.pd_kept.specs.Kept.{times_of_runs}
 use Rattle.pd_kept.proofs.LatestLemmas.{no_runs, times_next}
 use Rattle.pd_kept.proofs.latest.latest_of_runs.Goals as goal
 

@@ -1,7 +1,7 @@
 use Rattle.std.proofs.Common.{◌≡◌, max, length}
 use Rattle.std.specs.Prelude.{fold}
-use Rattle.pd_runs.specs.Places.{runs_from}
-use Rattle.pd_kept.specs.Latest.{times_of_runs}
+use Rattle.pd_meaning_thin.specs.Packed.{runs_from}
+use Rattle.pd_kept.specs.Kept.{times_of_runs}
 use Rattle.pd_kept.proofs.latest.latest_of_runs.Given as goal
 
 abbrev pub invariant-loop-run : goal.invariant-loop-run

@@ -1,9 +1,9 @@
 use Rattle.std.proofs.Common.{List, max, ap, ◌∙◌}
 use Rattle.std.specs.List.{flat_map}
 use Rattle.std.specs.Prelude.{fold}
-use Rattle.pd_thin_meaning.specs.declared.joined.Run.{Run}
+use Rattle.pd_meaning_thin.specs.declared.joined.Run.{Run}
 use Rattle.pd_salvage.specs.declared.saved_shape.ShapedDevice.{ShapedDevice}
-use Rattle.pd_kept.specs.Latest.{own_times, times_of_runs}
+use Rattle.pd_kept.specs.Kept.{own_times, times_of_runs}
 use Rattle.pd_kept.proofs.LatestLemmas.{latest_is}
 use Rattle.pd_kept.proofs.latest.latest_time.Goals as goal
 

@@ -1,6 +1,6 @@
 use Rattle.std.proofs.Common.{IfSome, ap, map, subst, ◌≡◌, ◌∙◌}
 use Rattle.pd_tree.proofs.NextLemmas.{if_both}
-use Rattle.pd_kept.specs.Stored.{pair_of, stored_numbers}
+use Rattle.pd_kept.specs.Kept.{pair_of, stored_numbers}
 use Rattle.pd_kept.proofs.LatestLemmas.{pool_time_is, time_is}
 use Rattle.pd_kept.proofs.latest.time_of_saved.Goals as goal
 

@@ -2,7 +2,7 @@ use Rattle.std.proofs.Common.{refl, ◌∙◌}
 use Rattle.pd_lines.specs.Printer.{printing}
 use Rattle.pd_lines.proofs.Printing.{begun_with, printed_none}
 use Rattle.pd_kept.specs.Kept.{line_of}
-use Rattle.pd_kept.proofs.TextLemmas.{all_printed, line_begun, line_printed}
+use Rattle.pd_kept.proofs.StatesLemmas.{all_printed, line_begun, line_printed}
 use Rattle.pd_kept.proofs.lines.print_devices.Goals as goal
 
 pub loop-device-init : goal.loop-device-init

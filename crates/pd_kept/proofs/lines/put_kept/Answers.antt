@@ -1,9 +1,9 @@
 use Rattle.std.proofs.Common.{OnOk, rules, subst}
 use Rattle.pd_kinds.specs.Objects.{Appends, AppendsFront}
 use Rattle.pd_lines.proofs.Printing.{all_begun, all_lost}
+use Rattle.pd_query.proofs.QueryLemmas.{put_all}
 use Rattle.pd_answers.specs.KeptLines.{told_text}
 use Rattle.pd_kept.specs.Kept.{told_of}
-use Rattle.pd_kept.proofs.TextLemmas.{put_all}
 use Rattle.pd_kept.proofs.lines.put_kept.Goals as goal
 
 pub returns-clause-whole : goal.returns-clause-whole

@@ -1,7 +1,7 @@
 use Rattle.std.proofs.Common.{[], ◌∷◌, ◌++◌, ◌+◌, map, drop, ap, ◌∙◌}
 use Rattle.pd_kept.specs.declared.kept.KeptDevice.{KeptDevice}
-use Rattle.pd_kept.specs.Merging.{saved_pair}
-use Rattle.pd_kept.specs.Stored.{pair_of}
+use Rattle.pd_kept.specs.Kept.{saved_pair}
+use Rattle.pd_kept.specs.Kept.{pair_of}
 use Rattle.pd_kept.proofs.TellingLemmas.{from_here, tells_both, tells_saved}
 use Rattle.pd_kept.proofs.merging.add_device.Goals as goal
 

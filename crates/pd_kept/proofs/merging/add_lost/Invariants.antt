@@ -1,6 +1,6 @@
 use Rattle.std.proofs.Common.{ℕ, ◌-◌, List, length, map, drop}
-use Rattle.pd_kept.specs.Merging.{Tells}
-use Rattle.pd_kept.specs.Stored.{AreStored, pair_of}
+use Rattle.pd_kept.specs.Kept.{Tells}
+use Rattle.pd_kept.specs.Kept.{AreStored, pair_of}
 use Rattle.pd_kept.proofs.merging.add_lost.Given as goal
 
 abbrev pub invariant-loop-at : goal.invariant-loop-at

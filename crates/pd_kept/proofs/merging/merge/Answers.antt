@@ -1,6 +1,6 @@
 use Rattle.std.proofs.Common.{[], map, drop}
-use Rattle.pd_kept.specs.Merging.{lines_at_all, saved_pair}
-use Rattle.pd_kept.specs.Stored.{pair_of}
+use Rattle.pd_kept.specs.Kept.{lines_at_all, saved_pair}
+use Rattle.pd_kept.specs.Kept.{pair_of}
 use Rattle.pd_kept.proofs.TellingLemmas.{all_told, no_device, tells_begun}
 use Rattle.pd_kept.proofs.merging.merge.Goals as goal
 

@@ -1,6 +1,6 @@
 use Rattle.std.proofs.Common.{map, drop}
-use Rattle.pd_kept.specs.Merging.{Tells, lines_at_all, saved_pair}
-use Rattle.pd_kept.specs.Stored.{pair_of}
+use Rattle.pd_kept.specs.Kept.{Tells, lines_at_all, saved_pair}
+use Rattle.pd_kept.specs.Kept.{pair_of}
 use Rattle.pd_kept.proofs.merging.merge.Given as goal
 
 abbrev pub invariant-loop-device : goal.invariant-loop-device

@@ -1,4 +1,4 @@
-use Rattle.pd_kept.proofs.QueryLemmas.{blames_read, has_faults, none_taken}
+use Rattle.pd_kept.proofs.StatesLemmas.{blames_read, has_faults, none_taken}
 use Rattle.pd_kept.proofs.query.super_if_sound.Goals as goal
 
 pub returns-in-Ok-clause-faults : goal.returns-in-Ok-clause-faults

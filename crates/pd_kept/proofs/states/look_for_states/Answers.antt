@@ -4,9 +4,9 @@ use Rattle.pd_kinds.specs.declared.limits.TheConstants.{MAX_META_BLOCKS}
 use Rattle.pd_laid.specs.FoundRoots.{lost_graph}
 use Rattle.pd_tree.proofs.NextLemmas.{if_both}
 use Rattle.pd_answers.specs.KeptLines.{IsTold}
-use Rattle.pd_answers.specs.States.{states}
+use Rattle.pd_answers.specs.NamedRepairs.{states}
 use Rattle.pd_scan.specs.declared.states.State.{State}
-use Rattle.pd_scan.specs.States.{HasDevices, state_roots}
+use Rattle.pd_scan.specs.Pairs.{HasDevices, state_roots}
 use Rattle.pd_kept.specs.Kept.{told_of}
 use Rattle.pd_kept.proofs.StatesLemmas.{first_state, text_told}
 use Rattle.pd_kept.proofs.states.look_for_states.Goals as goal

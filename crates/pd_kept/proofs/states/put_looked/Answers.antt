@@ -1,8 +1,8 @@
 use Rattle.std.proofs.Common.{OnOk, rules, subst}
 use Rattle.pd_kinds.specs.Objects.{Appends, AppendsFront}
 use Rattle.pd_lines.proofs.Printing.{all_begun, all_lost}
+use Rattle.pd_query.proofs.QueryLemmas.{put_all}
 use Rattle.pd_kept.specs.States.{looked_text}
-use Rattle.pd_kept.proofs.TextLemmas.{put_all}
 use Rattle.pd_kept.proofs.states.put_looked.Goals as goal
 
 pub returns-clause-whole : goal.returns-clause-whole

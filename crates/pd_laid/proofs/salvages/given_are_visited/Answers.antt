@@ -1,4 +1,4 @@
-use Rattle.pd_laid.proofs.VisitLemmas.{visits_give}
+use Rattle.pd_laid.proofs.GatherLemmas.{visits_give}
 use Rattle.pd_laid.proofs.salvages.given_are_visited.Goals as goal
 
 pub returns : goal.returns

@@ -1,4 +1,4 @@
-use Rattle.pd_laid.proofs.ShapeLemmas.{pool_kept, is_shape}
+use Rattle.pd_laid.proofs.ShapeText.{pool_kept, is_shape}
 use Rattle.pd_laid.proofs.shapes.shape_of_keeps_meaning.Goals as goal
 
 pub returns-clause-kept : goal.returns-clause-kept

@@ -1,4 +1,4 @@
-use Rattle.pd_layouts.specs.LeafValue.{value_size, value_target}
+use Rattle.pd_layouts.specs.Layout.{value_size, value_target}
 use Rattle.pd_layouts.proofs.Rows.{data_entry, data_found}
 use Rattle.pd_layouts.proofs.tree.data_of_node.Goals as goal
 

@@ -1,5 +1,5 @@
 use Rattle.std.proofs.Common.{◌≡◌, rules, ◌∙◌}
-use Rattle.pd_layouts.specs.LeafValue.{value_size, value_target}
+use Rattle.pd_layouts.specs.Layout.{value_size, value_target}
 use Rattle.pd_layouts.proofs.Rows.{edge_number, edge_number_is}
 use Rattle.pd_layouts.proofs.tree.edge_count.Goals as goal
 

@@ -1,6 +1,6 @@
 use Rattle.std.proofs.Common.{rules}
-use Rattle.pd_kinds.specs.Edge.{edge_of}
-use Rattle.pd_layouts.specs.LeafValue.{value_size, value_target}
+use Rattle.pd_kinds.specs.Graph.{edge_of}
+use Rattle.pd_layouts.specs.Layout.{value_size, value_target}
 use Rattle.pd_layouts.proofs.Rows.{edge_entry, edge_found}
 use Rattle.pd_layouts.proofs.tree.edge_of_node.Goals as goal
 

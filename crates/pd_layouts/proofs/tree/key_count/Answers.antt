@@ -1,7 +1,7 @@
 use Rattle.std.proofs.Common.{sym, ◌∙◌}
 use Rattle.std.proofs.lemmas.List.FromFn.{length-map-range_with_len}
 use Rattle.pd_kinds.specs.Node.{entry_count, key_at, node_keys}
-use Rattle.pd_layouts.specs.LeafValue.{value_size}
+use Rattle.pd_layouts.specs.Layout.{value_size}
 use Rattle.pd_layouts.proofs.tree.key_count.Goals as goal
 
 pub returns : goal.returns

@@ -1,5 +1,5 @@
 use Rattle.pd_kinds.specs.Node.{entry_count, key_at, node_keys}
-use Rattle.pd_layouts.specs.LeafValue.{value_size}
+use Rattle.pd_layouts.specs.Layout.{value_size}
 use Rattle.pd_layouts.proofs.Rows.{below_row, slice_get-row}
 use Rattle.pd_layouts.proofs.tree.key_of.Goals as goal
 

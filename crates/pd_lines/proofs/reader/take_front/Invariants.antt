@@ -1,5 +1,5 @@
 use Rattle.std.proofs.Common.{◌≡◌, ◌-◌, length}
-use Rattle.pd_lines.specs.Moves.{Moves}
+use Rattle.pd_lines.specs.Front.{Moves}
 use Rattle.pd_image.specs.Source.{KeepsSource}
 use Rattle.pd_lines.proofs.reader.take_front.Given as goal
 

@@ -1,9 +1,9 @@
 use Rattle.std.specs.List.{flat_map}
 use Rattle.std.proofs.Common.{◌++◌, take, drop, ◌≡◌, ◌∙◌}
-use Rattle.pd_spells.specs.Lines.{fault_line}
-use Rattle.pd_kinds.proofs.AppendLemmas.{front_of_more}
-use Rattle.pd_lines.proofs.Gathering.{gathers_front}
-use Rattle.pd_lines.proofs.ReportLines.{lines-take-suc, lines-take}
+use Rattle.pd_grammar.specs.Lines.{fault_line}
+use Rattle.pd_kinds.proofs.ListLemmas.{front_of_more}
+use Rattle.pd_lines.proofs.Printing.{gathers_front}
+use Rattle.pd_lines.proofs.Printing.{lines-take-suc, lines-take}
 use Rattle.pd_lines.proofs.report.add_faults.Goals as goal
 
 pub returns-in_err-add-clause-front : goal.returns-in_err-add-clause-front

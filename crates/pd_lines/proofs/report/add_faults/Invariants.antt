@@ -1,6 +1,6 @@
 use Rattle.std.proofs.Common.{◌≡◌, ℕ, ◌++◌, List, take, Option}
 use Rattle.std.specs.List.{flat_map}
-use Rattle.pd_spells.specs.Lines.{fault_line}
+use Rattle.pd_grammar.specs.Lines.{fault_line}
 use Rattle.pd_lines.specs.Pieces.{Gathers}
 use Rattle.pd_lines.proofs.report.add_faults.Given as goal
 

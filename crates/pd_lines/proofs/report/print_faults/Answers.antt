@@ -1,8 +1,8 @@
 use Rattle.std.proofs.Common.{◌≡◌, ◌++◌, ◌∙◌, ◌∷◌, codes, decimal, []}
 use Rattle.std.specs.List.{flat_map}
-use Rattle.pd_spells.specs.Lines.{fault_line}
-use Rattle.pd_kinds.proofs.AppendLemmas.{front_of_more}
-use Rattle.pd_lines.proofs.ReportLines.{lines_of-faults}
+use Rattle.pd_grammar.specs.Lines.{fault_line}
+use Rattle.pd_kinds.proofs.ListLemmas.{front_of_more}
+use Rattle.pd_lines.proofs.Printing.{lines_of-faults}
 use Rattle.pd_lines.proofs.report.print_faults.Goals as goal
 
 pub returns-in_err-add_faults-clause-front : goal.returns-in_err-add_faults-clause-front

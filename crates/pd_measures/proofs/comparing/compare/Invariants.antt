@@ -1,9 +1,9 @@
 use Rattle.std.proofs.Common.{◌≡◌, ◌+◌, ◌≤◌, IfSome}
 use Rattle.pd_image.specs.Device.{OnlyReads}
 use Rattle.pd_tree.specs.Cursor.{cursor_items, cursor_number}
-use Rattle.pd_tree.specs.Items.{root_of}
-use Rattle.pd_measures.specs.Gauge.{below_root}
-use Rattle.pd_measures.specs.Lists.{are_one, details_of, lists_reads}
+use Rattle.pd_tree.specs.Cursor.{root_of}
+use Rattle.pd_measures.specs.Measured.{below_root}
+use Rattle.pd_measures.specs.Counts.{are_one, details_of, lists_reads}
 use Rattle.pd_measures.proofs.comparing.compare.Given as goal
 
 -- what is left of both is one list exactly where all was

@@ -1,15 +1,15 @@
 use Rattle.std.proofs.Common.{◌≡◌, ℕ, List, map, ◌∙◌, ap, arith}
 use Rattle.pd_kinds.specs.Whole.{top_entries, details_entries}
+use Rattle.pd_kinds.proofs.NumberLemmas.{same_test}
 use Rattle.pd_laid.specs.FoundRoots.{are_fitting, lost_graph}
 use Rattle.pd_value.specs.declared.thin.Root.{Root}
-use Rattle.pd_graph.proofs.AnyLemmas.{same_test}
 use Rattle.pd_tree.specs.Cursor.{cursor_items}
-use Rattle.pd_tree.specs.Items.{item_of, root_of}
+use Rattle.pd_tree.specs.Cursor.{item_of, root_of}
 use Rattle.pd_measures.specs.Counts.{counts_of_details, counts_of_top, mappings_below}
-use Rattle.pd_measures.specs.Gauge.{below_root}
-use Rattle.pd_measures.specs.Lists.{are_one, details_of}
-use Rattle.pd_measures.proofs.ListsLemmas.{items_by_one, one_by_items}
-use Rattle.pd_measures.proofs.PairLemmas.{ok_some}
+use Rattle.pd_measures.specs.Measured.{below_root}
+use Rattle.pd_measures.specs.Counts.{are_one, details_of}
+use Rattle.pd_measures.proofs.ListLemmas.{items_by_one, one_by_items}
+use Rattle.pd_measures.proofs.ListLemmas.{ok_some}
 use Rattle.pd_measures.proofs.SoundLemmas.{lost_details, lost_lawful, lost_roles, lost_tops, root_inside}
 use Rattle.pd_measures.proofs.comparing.do_trees_fit.Goals as goal
 

@@ -6,7 +6,7 @@ use Rattle.pd_kinds.specs.Meaning.{Mapping, ThinDevice}
 use Rattle.pd_kinds.specs.Trees.{keys_of}
 use Rattle.pd_kinds.specs.Whole.{top_entries, details_entries}
 use Rattle.pd_laid.specs.FoundRoots.{FoundRoots, are_fitting, devices_below, is_sound_tree, lost_graph, roots_at, times_of}
-use Rattle.pd_whole.specs.Ascending.{IsUp}
+use Rattle.pd_check.specs.Known.{IsUp}
 use Rattle.pd_measures.specs.Counts.{counts_of_top, counts_of_details, details_time, details_transaction, times_of_top, top_time}
 use Rattle.pd_measures.proofs.ListLemmas.{fits, fits_list, list_fits, fits_total, fits_time, fits_times, fits_transaction}
 use Rattle.pd_measures.proofs.SoundLemmas.{lost_details, lost_lawful, lost_roles, root_inside}

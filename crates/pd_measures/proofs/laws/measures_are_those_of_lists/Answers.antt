@@ -1,6 +1,6 @@
 use Rattle.pd_kinds.specs.Whole.{details_entries, top_entries}
 use Rattle.pd_measures.specs.Counts.{counts_of_details, counts_of_top, details_time, details_transaction, times_of_top, top_time}
-use Rattle.pd_measures.proofs.GaugeLemmas.{details_are, tops_are}
+use Rattle.pd_measures.proofs.MeasureLemmas.{details_are, tops_are}
 use Rattle.pd_measures.proofs.laws.measures_are_those_of_lists.Goals as goal
 
 pub returns-clause-details : goal.returns-clause-details

@@ -1,7 +1,7 @@
 use Rattle.std.proofs.Common.{◌≡◌, ◌++◌, map, IfSome}
 use Rattle.pd_image.specs.Device.{OnlyReads}
 use Rattle.pd_tree.specs.Cursor.{cursor_items, cursor_number}
-use Rattle.pd_measures.specs.Lists.{key_and_told}
+use Rattle.pd_measures.specs.Counts.{key_and_told}
 use Rattle.pd_measures.proofs.listing.gather.Given as goal
 
 -- what is listed and what is left are what was left

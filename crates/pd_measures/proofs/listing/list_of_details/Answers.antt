@@ -3,10 +3,10 @@ use Rattle.pd_kinds.specs.Whole.{details_entries}
 use Rattle.pd_laid.specs.FoundRoots.{lost_graph}
 use Rattle.pd_value.specs.declared.thin.Details.{Details}
 use Rattle.pd_tree.specs.Cursor.{cursor_items}
-use Rattle.pd_tree.specs.Items.{item_of}
+use Rattle.pd_tree.specs.Cursor.{item_of}
 use Rattle.pd_measures.specs.Counts.{counts_of_details}
-use Rattle.pd_measures.specs.Lists.{details_of, key_and_told}
-use Rattle.pd_measures.proofs.PairLemmas.{details_listed, ok_some}
+use Rattle.pd_measures.specs.Counts.{details_of, key_and_told}
+use Rattle.pd_measures.proofs.ListLemmas.{details_listed, ok_some}
 use Rattle.pd_measures.proofs.SoundLemmas.{lost_details, lost_lawful, lost_roles, root_inside}
 use Rattle.pd_measures.proofs.listing.list_of_details.Goals as goal
 

@@ -3,11 +3,11 @@ use Rattle.pd_kinds.specs.Whole.{top_entries}
 use Rattle.pd_laid.specs.FoundRoots.{lost_graph}
 use Rattle.pd_value.specs.declared.thin.Root.{Root}
 use Rattle.pd_tree.specs.Cursor.{cursor_items}
-use Rattle.pd_tree.specs.Items.{item_of, root_of}
+use Rattle.pd_tree.specs.Cursor.{item_of, root_of}
 use Rattle.pd_measures.specs.Counts.{counts_of_top, mappings_below}
-use Rattle.pd_measures.specs.Gauge.{below_root}
-use Rattle.pd_measures.specs.Lists.{key_and_told}
-use Rattle.pd_measures.proofs.PairLemmas.{ok_some, tops_listed}
+use Rattle.pd_measures.specs.Measured.{below_root}
+use Rattle.pd_measures.specs.Counts.{key_and_told}
+use Rattle.pd_measures.proofs.ListLemmas.{ok_some, tops_listed}
 use Rattle.pd_measures.proofs.SoundLemmas.{lost_lawful, lost_roles, lost_tops, root_inside}
 use Rattle.pd_measures.proofs.listing.list_of_top.Goals as goal
 

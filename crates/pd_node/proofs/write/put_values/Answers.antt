@@ -1,6 +1,6 @@
 use Rattle.std.proofs.Common.{ℕ, sym, refl}
 use Rattle.pd_kinds.specs.Node.{puts}
-use Rattle.pd_kinds.proofs.PutsLemmas.{row_more}
+use Rattle.pd_kinds.proofs.FieldLemmas.{row_more}
 use Rattle.pd_node.proofs.write.put_values.Goals as goal
 
 pub loop-i-init : goal.loop-i-init

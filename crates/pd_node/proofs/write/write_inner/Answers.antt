@@ -1,8 +1,8 @@
 use Rattle.std.proofs.Common.{ℕ, inl, lit<, lit≤, refl, sym, ◌∙◌, arith, length}
 use Rattle.pd_node.specs.Items.{entries_of}
-use Rattle.pd_node.specs.Read.{node_children}
+use Rattle.pd_node.specs.Items.{node_children}
 use Rattle.pd_node.proofs.Written.{CanWrite}
-use Rattle.pd_node.proofs.Sound.{IsKind, count_written, is_inner_written, keys_written, sound_written, values_written}
+use Rattle.pd_node.proofs.Written.{IsKind, count_written, is_inner_written, keys_written, sound_written, values_written}
 use Rattle.pd_node.proofs.FromItems.{can_write, codes_kept, count_kept, keys_kept, node_is}
 use Rattle.pd_node.proofs.write.write_inner.Goals as goal
 

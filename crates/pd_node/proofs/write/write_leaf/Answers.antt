@@ -3,7 +3,7 @@ use Rattle.std.specs.List.{All}
 use Rattle.pd_kinds.specs.Node.{entry_count, leaf_block}
 use Rattle.pd_node.specs.Items.{entries_of}
 use Rattle.pd_node.proofs.Written.{CanWrite}
-use Rattle.pd_node.proofs.Sound.{IsKind, count_written, is_inner_written, keys_written, sound_written}
+use Rattle.pd_node.proofs.Written.{IsKind, count_written, is_inner_written, keys_written, sound_written}
 use Rattle.pd_node.proofs.FromItems.{can_write, codes_below, count_kept, keys_kept, node_is, values_kept}
 use Rattle.pd_node.proofs.write.write_leaf.Goals as goal
 use Rattle.pd_node.proofs.write.write_leaf.Given as given

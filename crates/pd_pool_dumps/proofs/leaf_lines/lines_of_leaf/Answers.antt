@@ -5,9 +5,9 @@ use Rattle.std.proofs.lemmas.List.FromFn.{map-range_with_len_more}
 use Rattle.pd_kinds.specs.Meaning.{Mapping}
 use Rattle.pd_kinds.specs.Node.{entry_count, key_at, value_at}
 use Rattle.pd_value.specs.declared.thin.BlockTime.{BlockTime}
-use Rattle.pd_thin_meaning.specs.Items.{block_time_of}
-use Rattle.pd_thin_meaning.specs.Joined.{begun_mappings, mapping_of}
-use Rattle.pd_pool_dumps.specs.LeafLines.{AreTaken}
+use Rattle.pd_meaning_thin.specs.Runs.{block_time_of}
+use Rattle.pd_meaning_thin.specs.Runs.{begun_mappings, mapping_of}
+use Rattle.pd_pool_dumps.specs.LeafText.{AreTaken}
 use Rattle.pd_pool_dumps.proofs.LeafTextLemmas.{leaf_all}
 use Rattle.pd_pool_dumps.proofs.leaf_lines.lines_of_leaf.Goals as goal
 

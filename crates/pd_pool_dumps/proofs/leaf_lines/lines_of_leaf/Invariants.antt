@@ -1,9 +1,9 @@
 use Rattle.std.proofs.Common.{map}
 use Rattle.std.specs.List.{range_with_len}
 use Rattle.pd_kinds.specs.Node.{key_at, value_at}
-use Rattle.pd_thin_meaning.specs.Items.{block_time_of}
-use Rattle.pd_thin_meaning.specs.Joined.{mapping_of}
-use Rattle.pd_pool_dumps.specs.LeafLines.{AreTaken}
+use Rattle.pd_meaning_thin.specs.Runs.{block_time_of}
+use Rattle.pd_meaning_thin.specs.Runs.{mapping_of}
+use Rattle.pd_pool_dumps.specs.LeafText.{AreTaken}
 use Rattle.pd_pool_dumps.proofs.leaf_lines.lines_of_leaf.Given as goal
 
 -- the mappings before this one were taken

@@ -1,10 +1,10 @@
 use Rattle.std.specs.List.{flat_map}
 use Rattle.pd_grammar.specs.Texts.{text_of_lines}
-use Rattle.pd_spells.specs.ThinText.{thin}
-use Rattle.pd_thin_meaning.specs.Devices.{rows_left}
-use Rattle.pd_shared_leaves.specs.Leaves.{shared_blocks}
+use Rattle.pd_grammar.specs.ThinText.{thin}
+use Rattle.pd_meaning_thin.specs.Runs.{rows_left}
+use Rattle.pd_meaning_thin.specs.Walk.{shared_blocks}
 use Rattle.pd_pool_dumps.specs.SharedLines.{sharing_lines}
-use Rattle.pd_query.proofs.PutsLemmas.{first_lost, lost_with, some_then}
+use Rattle.pd_query.proofs.QueryLemmas.{first_lost, lost_with, some_then}
 use Rattle.pd_pool_dumps.proofs.SharedTextLemmas.{leaves_first}
 use Rattle.pd_pool_dumps.proofs.shared_lines.add_body.Goals as goal
 

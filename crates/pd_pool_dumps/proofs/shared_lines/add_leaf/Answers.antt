@@ -1,13 +1,13 @@
 use Rattle.std.proofs.Common.{ℕ, Err, refl, ap}
 use Rattle.pd_grammar.specs.Texts.{text_of_lines}
-use Rattle.pd_spells.specs.ThinText.{leaf_line, thin}
-use Rattle.pd_texts.specs.Printed.{text_of_line}
+use Rattle.pd_grammar.specs.ThinText.{leaf_line, thin}
+use Rattle.pd_texts.specs.ThinLine.{text_of_line}
 use Rattle.pd_lines.specs.Printer.{printing}
-use Rattle.pd_thin_meaning.specs.Runs.{runs_below}
+use Rattle.pd_meaning_thin.specs.Runs.{runs_below}
 use Rattle.pd_pool_dumps.specs.SharedLines.{leaf_lines}
 use Rattle.pd_pool_dumps.specs.ThinText.{given_text}
-use Rattle.pd_query.specs.declared.fault.QueryFault.TheVariants.{Device}
-use Rattle.pd_query.proofs.PutsLemmas.{first_lost, lost_with, one_told, prints_none, prints_told, prints_known, some_then}
+use Rattle.pd_query.specs.declared.query.QueryFault.TheVariants.{Device}
+use Rattle.pd_query.proofs.QueryLemmas.{first_lost, lost_with, one_told, prints_none, prints_told, prints_known, some_then}
 use Rattle.pd_pool_dumps.proofs.shared_lines.add_leaf.Goals as goal
 
 pub returns-in-Err-clause-prints : goal.returns-in-Err-clause-prints

@@ -2,10 +2,10 @@ use Rattle.std.proofs.Common.{◌≡◌, drop}
 use Rattle.pd_grammar.specs.Texts.{text_of_lines}
 use Rattle.pd_image.specs.Device.{OnlyReads}
 use Rattle.pd_lines.specs.Printer.{printing}
-use Rattle.pd_spells.specs.ThinText.{thin}
-use Rattle.pd_shared_leaves.specs.Leaves.{shared_blocks}
+use Rattle.pd_grammar.specs.ThinText.{thin}
+use Rattle.pd_meaning_thin.specs.Walk.{shared_blocks}
 use Rattle.pd_pool_dumps.specs.SharedLines.{leaves_lines}
-use Rattle.pd_query.proofs.PutsLemmas.{PrintsSoFar}
+use Rattle.pd_query.proofs.QueryLemmas.{PrintsSoFar}
 use Rattle.pd_pool_dumps.proofs.shared_lines.add_leaves.Given as goal
 
 abbrev pub invariant-loop-number : goal.invariant-loop-number

@@ -1,16 +1,16 @@
 use Rattle.std.proofs.Common.{Some, None, Err, IfSome, map, ap, ◌∙◌, subst}
 use Rattle.pd_grammar.specs.Texts.{text_of_lines}
-use Rattle.pd_image.proofs.ReadLemmas.{only_reads_both}
+use Rattle.pd_image.proofs.CrashLemmas.{only_reads_both}
 use Rattle.pd_lines.specs.Printer.{printing}
-use Rattle.pd_spells.specs.ThinText.{thin}
-use Rattle.pd_tree.specs.Next.{IsNext}
-use Rattle.pd_shared_leaves.specs.declared.pieces.Piece.{Piece}
-use Rattle.pd_shared_leaves.specs.Leaves.{shared_blocks}
-use Rattle.pd_shared_leaves.specs.Pieces.{pieces_left}
+use Rattle.pd_grammar.specs.ThinText.{thin}
+use Rattle.pd_tree.specs.Stack.{IsNext}
+use Rattle.pd_meaning_thin.specs.declared.pieces.Piece.{Piece}
+use Rattle.pd_meaning_thin.specs.Walk.{shared_blocks}
+use Rattle.pd_meaning_thin.specs.Pieces.{pieces_left}
 use Rattle.pd_pool_dumps.specs.SharedLines.{piece_line}
-use Rattle.pd_query.specs.declared.fault.QueryFault.{QueryFault}
-use Rattle.pd_query.specs.declared.fault.QueryFault.TheVariants.{Device}
-use Rattle.pd_query.proofs.PutsLemmas.{lost_with, one_told, prints_known, so_far_all, so_far_lost, so_far_more, so_far_stops}
+use Rattle.pd_query.specs.declared.query.QueryFault.{QueryFault}
+use Rattle.pd_query.specs.declared.query.QueryFault.TheVariants.{Device}
+use Rattle.pd_query.proofs.QueryLemmas.{lost_with, one_told, prints_known, so_far_all, so_far_lost, so_far_more, so_far_stops}
 use Rattle.pd_pool_dumps.proofs.SharedTextLemmas.{piece_first}
 use Rattle.pd_pool_dumps.proofs.shared_lines.add_pieces.Goals as goal
 

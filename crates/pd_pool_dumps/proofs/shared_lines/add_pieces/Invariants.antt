@@ -2,11 +2,11 @@ use Rattle.std.proofs.Common.{◌≡◌, map}
 use Rattle.pd_grammar.specs.Texts.{text_of_lines}
 use Rattle.pd_image.specs.Device.{OnlyReads}
 use Rattle.pd_lines.specs.Printer.{printing}
-use Rattle.pd_spells.specs.ThinText.{thin}
-use Rattle.pd_shared_leaves.specs.Leaves.{shared_blocks}
-use Rattle.pd_shared_leaves.specs.Pieces.{pieces_left, pieces_number}
+use Rattle.pd_grammar.specs.ThinText.{thin}
+use Rattle.pd_meaning_thin.specs.Walk.{shared_blocks}
+use Rattle.pd_meaning_thin.specs.Pieces.{pieces_left, pieces_number}
 use Rattle.pd_pool_dumps.specs.SharedLines.{piece_line}
-use Rattle.pd_query.proofs.PutsLemmas.{PrintsSoFar}
+use Rattle.pd_query.proofs.QueryLemmas.{PrintsSoFar}
 use Rattle.pd_pool_dumps.proofs.shared_lines.add_pieces.Given as goal
 
 abbrev pub invariant-loop-piece : goal.invariant-loop-piece

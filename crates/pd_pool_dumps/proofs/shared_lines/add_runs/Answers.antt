@@ -1,14 +1,14 @@
 use Rattle.std.proofs.Common.{Some, None, Err, IfSome, ap, ◌∙◌, subst}
-use Rattle.pd_image.proofs.ReadLemmas.{only_reads_both}
+use Rattle.pd_image.proofs.CrashLemmas.{only_reads_both}
 use Rattle.pd_lines.specs.Printer.{printing}
-use Rattle.pd_tree.specs.Next.{IsNext}
-use Rattle.pd_thin_meaning.specs.declared.joined.Run.{Run}
-use Rattle.pd_thin_meaning.specs.Runs.{runs_left}
+use Rattle.pd_tree.specs.Stack.{IsNext}
+use Rattle.pd_meaning_thin.specs.declared.joined.Run.{Run}
+use Rattle.pd_meaning_thin.specs.Runs.{runs_left}
 use Rattle.pd_pool_dumps.specs.ThinText.{given_text}
-use Rattle.pd_query.specs.declared.fault.QueryFault.{QueryFault}
-use Rattle.pd_query.specs.declared.fault.QueryFault.TheVariants.{Device}
-use Rattle.pd_query.proofs.PutsLemmas.{lost_with, one_told, prints_known, so_far_all, so_far_lost, so_far_more, so_far_stops}
-use Rattle.pd_pool_dumps.proofs.TextLemmas.{run_first}
+use Rattle.pd_query.specs.declared.query.QueryFault.{QueryFault}
+use Rattle.pd_query.specs.declared.query.QueryFault.TheVariants.{Device}
+use Rattle.pd_query.proofs.QueryLemmas.{lost_with, one_told, prints_known, so_far_all, so_far_lost, so_far_more, so_far_stops}
+use Rattle.pd_pool_dumps.proofs.RunLemmas.{run_first}
 use Rattle.pd_pool_dumps.proofs.shared_lines.add_runs.Goals as goal
 
 pub returns-in-Err-clause-prints : goal.returns-in-Err-clause-prints

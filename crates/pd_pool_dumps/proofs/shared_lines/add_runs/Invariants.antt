@@ -1,9 +1,9 @@
 use Rattle.std.proofs.Common.{◌≡◌}
 use Rattle.pd_image.specs.Device.{OnlyReads}
 use Rattle.pd_lines.specs.Printer.{printing}
-use Rattle.pd_thin_meaning.specs.Runs.{runs_left, runs_number}
+use Rattle.pd_meaning_thin.specs.Runs.{runs_left, runs_number}
 use Rattle.pd_pool_dumps.specs.ThinText.{given_text}
-use Rattle.pd_query.proofs.PutsLemmas.{PrintsSoFar}
+use Rattle.pd_query.proofs.QueryLemmas.{PrintsSoFar}
 use Rattle.pd_pool_dumps.proofs.shared_lines.add_runs.Given as goal
 
 abbrev pub invariant-loop-run : goal.invariant-loop-run

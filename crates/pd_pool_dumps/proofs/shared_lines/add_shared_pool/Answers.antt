@@ -1,10 +1,10 @@
 use Rattle.std.proofs.Common.{Err, refl, ◌∷◌, ◌++◌, []}
 use Rattle.pd_grammar.specs.Texts.{text_of_lines}
-use Rattle.pd_spells.specs.ThinText.{end_line, pool_line, thin}
-use Rattle.pd_texts.specs.Printed.{text_of_line}
-use Rattle.pd_thin_meaning.specs.Given.{super_head}
-use Rattle.pd_pool_dumps.specs.SharedDump.{body_left}
-use Rattle.pd_query.proofs.PutsLemmas.{first_lost, lost_with, prints_known, some_then}
+use Rattle.pd_grammar.specs.ThinText.{end_line, pool_line, thin}
+use Rattle.pd_texts.specs.ThinLine.{text_of_line}
+use Rattle.pd_meaning_thin.specs.Given.{super_head}
+use Rattle.pd_pool_dumps.specs.ThinDump.{body_left}
+use Rattle.pd_query.proofs.QueryLemmas.{first_lost, lost_with, prints_known, some_then}
 use Rattle.pd_pool_dumps.proofs.SharedTextLemmas.{last_after}
 use Rattle.pd_pool_dumps.proofs.shared_lines.add_shared_pool.Goals as goal
 

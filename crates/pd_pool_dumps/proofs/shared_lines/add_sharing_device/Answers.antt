@@ -1,9 +1,9 @@
 use Rattle.std.proofs.Common.{Err, refl}
 use Rattle.pd_grammar.specs.Texts.{text_of_lines}
-use Rattle.pd_spells.specs.ThinText.{thin}
-use Rattle.pd_shared_leaves.specs.Leaves.{shared_blocks}
+use Rattle.pd_grammar.specs.ThinText.{thin}
+use Rattle.pd_meaning_thin.specs.Walk.{shared_blocks}
 use Rattle.pd_pool_dumps.specs.SharedLines.{pieces_lines}
-use Rattle.pd_query.proofs.PutsLemmas.{first_lost, lost_with, prints_known, some_then}
+use Rattle.pd_query.proofs.QueryLemmas.{first_lost, lost_with, prints_known, some_then}
 use Rattle.pd_pool_dumps.proofs.shared_lines.add_sharing_device.Goals as goal
 
 pub returns-in_err-print_text_line-clause-prints : goal.returns-in_err-print_text_line-clause-prints

@@ -1,16 +1,16 @@
 use Rattle.std.proofs.Common.{Some, None, IfSome, ap, ◌∙◌, subst}
 use Rattle.std.specs.List.{flat_map}
 use Rattle.pd_grammar.specs.Texts.{text_of_lines}
-use Rattle.pd_image.proofs.ReadLemmas.{only_reads_both}
+use Rattle.pd_image.proofs.CrashLemmas.{only_reads_both}
 use Rattle.pd_lines.specs.Printer.{printing}
-use Rattle.pd_spells.specs.ThinText.{thin}
-use Rattle.pd_tree.specs.Next.{IsNext}
-use Rattle.pd_thin_meaning.specs.declared.devices.DeviceRow.{DeviceRow}
-use Rattle.pd_thin_meaning.specs.Devices.{rows_left}
-use Rattle.pd_shared_leaves.specs.Leaves.{shared_blocks}
+use Rattle.pd_grammar.specs.ThinText.{thin}
+use Rattle.pd_tree.specs.Stack.{IsNext}
+use Rattle.pd_meaning_thin.specs.declared.devices.DeviceRow.{DeviceRow}
+use Rattle.pd_meaning_thin.specs.Runs.{rows_left}
+use Rattle.pd_meaning_thin.specs.Walk.{shared_blocks}
 use Rattle.pd_pool_dumps.specs.SharedLines.{sharing_lines}
-use Rattle.pd_query.specs.declared.fault.QueryFault.TheVariants.{Device}
-use Rattle.pd_query.proofs.PutsLemmas.{lost_with, one_told, so_far_all, so_far_lost, so_far_more, so_far_stops}
+use Rattle.pd_query.specs.declared.query.QueryFault.TheVariants.{Device}
+use Rattle.pd_query.proofs.QueryLemmas.{lost_with, one_told, so_far_all, so_far_lost, so_far_more, so_far_stops}
 use Rattle.pd_pool_dumps.proofs.SharedTextLemmas.{sharing_first}
 use Rattle.pd_pool_dumps.proofs.shared_lines.add_sharing_devices.Goals as goal
 

@@ -3,11 +3,11 @@ use Rattle.std.specs.List.{flat_map}
 use Rattle.pd_grammar.specs.Texts.{text_of_lines}
 use Rattle.pd_image.specs.Device.{OnlyReads}
 use Rattle.pd_lines.specs.Printer.{printing}
-use Rattle.pd_spells.specs.ThinText.{thin}
-use Rattle.pd_thin_meaning.specs.Devices.{rows_left, rows_number}
-use Rattle.pd_shared_leaves.specs.Leaves.{shared_blocks}
+use Rattle.pd_grammar.specs.ThinText.{thin}
+use Rattle.pd_meaning_thin.specs.Runs.{rows_left, rows_number}
+use Rattle.pd_meaning_thin.specs.Walk.{shared_blocks}
 use Rattle.pd_pool_dumps.specs.SharedLines.{sharing_lines}
-use Rattle.pd_query.proofs.PutsLemmas.{PrintsSoFar}
+use Rattle.pd_query.proofs.QueryLemmas.{PrintsSoFar}
 use Rattle.pd_pool_dumps.proofs.shared_lines.add_sharing_devices.Given as goal
 
 abbrev pub invariant-loop-row : goal.invariant-loop-row

@@ -1,6 +1,6 @@
 use Rattle.std.proofs.Common.{◌≡◌, ◌≤◌, ◌-◌, ◌^◌, IfSome}
 use Rattle.pd_image.specs.Device.{OnlyReads}
-use Rattle.pd_thin_meaning.specs.Runs.{runs_left, runs_number}
+use Rattle.pd_meaning_thin.specs.Runs.{runs_left, runs_number}
 use Rattle.pd_pool_dumps.specs.SharedLines.{entries_in}
 use Rattle.pd_pool_dumps.proofs.SharedTextLemmas.{entries_after}
 use Rattle.pd_pool_dumps.proofs.shared_lines.count_runs.Given as goal

@@ -1,11 +1,11 @@
 use Rattle.std.proofs.Common.{Err, map, refl}
-use Rattle.pd_spells.specs.ThinText.{device_line, map_line}
-use Rattle.pd_thin_meaning.specs.Given.{details_of_row}
-use Rattle.pd_thin_meaning.specs.Joined.{spelled}
-use Rattle.pd_thin_meaning.specs.Runs.{runs_below}
+use Rattle.pd_grammar.specs.ThinText.{device_line, map_line}
+use Rattle.pd_meaning_thin.specs.Given.{details_of_row}
+use Rattle.pd_meaning_thin.specs.Runs.{spelled}
+use Rattle.pd_meaning_thin.specs.Runs.{runs_below}
 use Rattle.pd_pool_dumps.specs.ThinText.{given_text}
-use Rattle.pd_pool_dumps.proofs.CountLemmas.{counts_after}
-use Rattle.pd_query.proofs.PutsLemmas.{first_lost, lost_with, prints_known, some_then}
+use Rattle.pd_pool_dumps.proofs.RunLemmas.{counts_after}
+use Rattle.pd_query.proofs.QueryLemmas.{first_lost, lost_with, prints_known, some_then}
 use Rattle.pd_pool_dumps.proofs.thin_lines.add_device.Goals as goal
 
 pub returns-in_err-add_line-clause-prints : goal.returns-in_err-add_line-clause-prints

@@ -1,16 +1,16 @@
 use Rattle.std.proofs.Common.{Some, None, IfSome, ap, ◌∙◌, subst}
-use Rattle.pd_image.proofs.ReadLemmas.{only_reads_both}
+use Rattle.pd_image.proofs.CrashLemmas.{only_reads_both}
 use Rattle.pd_lines.specs.Printer.{printing}
-use Rattle.pd_tree.specs.Next.{IsNext}
-use Rattle.pd_thin_meaning.specs.declared.devices.DeviceRow.{DeviceRow}
-use Rattle.pd_thin_meaning.specs.Devices.{rows_left}
+use Rattle.pd_tree.specs.Stack.{IsNext}
+use Rattle.pd_meaning_thin.specs.declared.devices.DeviceRow.{DeviceRow}
+use Rattle.pd_meaning_thin.specs.Runs.{rows_left}
 use Rattle.pd_pool_dumps.specs.ThinText.{rows_text}
-use Rattle.pd_query.specs.declared.fault.QueryFault.TheVariants.{Device}
-use Rattle.pd_query.proofs.PutsLemmas.{lost_with, one_told, so_far_all, so_far_lost, so_far_more, so_far_stops}
-use Rattle.pd_pool_dumps.proofs.TextLemmas.{row_first}
+use Rattle.pd_query.specs.declared.query.QueryFault.TheVariants.{Device}
+use Rattle.pd_query.proofs.QueryLemmas.{lost_with, one_told, so_far_all, so_far_lost, so_far_more, so_far_stops}
+use Rattle.pd_pool_dumps.proofs.RunLemmas.{row_first}
 use Rattle.std.specs.List.{flat_map}
-use Rattle.pd_thin_meaning.specs.Given.{row_lines}
-use Rattle.pd_pool_dumps.proofs.CountLemmas.{counts_all, counts_more, rows_lines}
+use Rattle.pd_meaning_thin.specs.Given.{row_lines}
+use Rattle.pd_pool_dumps.proofs.RunLemmas.{counts_all, counts_more, rows_lines}
 use Rattle.pd_pool_dumps.proofs.thin_lines.add_devices.Goals as goal
 
 pub returns-in-Err-clause-prints : goal.returns-in-Err-clause-prints

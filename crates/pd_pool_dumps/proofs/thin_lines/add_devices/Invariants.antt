@@ -1,14 +1,14 @@
 use Rattle.std.proofs.Common.{◌≡◌, IfSome}
 use Rattle.pd_image.specs.Device.{OnlyReads}
 use Rattle.pd_lines.specs.Printer.{printing}
-use Rattle.pd_thin_meaning.specs.Devices.{rows_left, rows_number}
-use Rattle.pd_pool_dumps.specs.DeviceWalk.{kept_texts}
+use Rattle.pd_meaning_thin.specs.Runs.{rows_left, rows_number}
+use Rattle.pd_pool_dumps.specs.LeafText.{kept_texts}
 use Rattle.pd_pool_dumps.specs.LeafText.{AreKept}
 use Rattle.pd_pool_dumps.specs.ThinText.{rows_text}
 use Rattle.std.specs.List.{flat_map}
-use Rattle.pd_thin_meaning.specs.Given.{row_lines}
-use Rattle.pd_query.proofs.PutsLemmas.{PrintsSoFar}
-use Rattle.pd_pool_dumps.proofs.CountLemmas.{CountsSoFar}
+use Rattle.pd_meaning_thin.specs.Given.{row_lines}
+use Rattle.pd_query.proofs.QueryLemmas.{PrintsSoFar}
+use Rattle.pd_pool_dumps.proofs.RunLemmas.{CountsSoFar}
 use Rattle.pd_pool_dumps.proofs.thin_lines.add_devices.Given as goal
 
 abbrev pub invariant-loop-row : goal.invariant-loop-row

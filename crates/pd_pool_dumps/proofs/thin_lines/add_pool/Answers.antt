@@ -1,13 +1,13 @@
 use Rattle.std.proofs.Common.{ℕ, List, Err, refl, ◌∷◌, ◌++◌, []}
 use Rattle.std.specs.List.{flat_map}
-use Rattle.pd_spells.specs.ThinText.{end_line, first_line, pool_line, thin}
-use Rattle.pd_texts.specs.Printed.{text_of_line}
-use Rattle.pd_thin_meaning.specs.Devices.{rows_left}
-use Rattle.pd_thin_meaning.specs.Given.{row_lines, super_head}
+use Rattle.pd_grammar.specs.ThinText.{end_line, first_line, pool_line, thin}
+use Rattle.pd_texts.specs.ThinLine.{text_of_line}
+use Rattle.pd_meaning_thin.specs.Runs.{rows_left}
+use Rattle.pd_meaning_thin.specs.Given.{row_lines, super_head}
 use Rattle.pd_pool_dumps.specs.ThinText.{rest_text}
-use Rattle.pd_pool_dumps.proofs.CountLemmas.{counts_after, counts_before}
-use Rattle.pd_query.proofs.PutsLemmas.{first_lost, lost_with, prints_known, some_then}
-use Rattle.pd_pool_dumps.proofs.TextLemmas.{last_line}
+use Rattle.pd_pool_dumps.proofs.RunLemmas.{counts_after, counts_before}
+use Rattle.pd_query.proofs.QueryLemmas.{first_lost, lost_with, prints_known, some_then}
+use Rattle.pd_pool_dumps.proofs.RunLemmas.{last_line}
 use Rattle.pd_pool_dumps.proofs.thin_lines.add_pool.Goals as goal
 
 pub returns-in_err-add_first_line-clause-prints : goal.returns-in_err-add_first_line-clause-prints

@@ -1,10 +1,10 @@
 use Rattle.std.proofs.Common.{rules}
 use Rattle.pd_kinds.specs.Meaning.{ThinPool}
 use Rattle.pd_laid.specs.Salvage.{salvage_from}
-use Rattle.pd_answers.specs.Seen.{seen_pool, timed_pool}
+use Rattle.pd_answers.specs.Searches.{seen_pool, timed_pool}
 use Rattle.pd_salvage.specs.Saved.{pool_of}
-use Rattle.pd_restore.specs.Made.{pool_content}
-use Rattle.pd_repair.specs.Lost.{seen_from}
+use Rattle.pd_restore.specs.Pools.{pool_content}
+use Rattle.pd_repair.specs.Snaps.{seen_from}
 use Rattle.pd_repair.proofs.SuperLemmas.{made_unwritten, never_saved, never_seen, told_seen}
 use Rattle.pd_repair.proofs.lost.repair_seen.Goals as goal
 

@@ -1,10 +1,10 @@
 use Rattle.std.proofs.Common.{rules}
 use Rattle.pd_laid.specs.Shape.{ThinShape}
-use Rattle.pd_shapes.specs.SavedShape.{saved_shape_from}
-use Rattle.pd_answers.specs.Seen.{seen_shape, timed_shape}
+use Rattle.pd_laid.specs.Salvage.{saved_shape_from}
+use Rattle.pd_answers.specs.Searches.{seen_shape, timed_shape}
 use Rattle.pd_salvage.specs.SavedShape.{held_shape}
-use Rattle.pd_restore.specs.Made.{shape_content}
-use Rattle.pd_repair.specs.Lost.{seen_shape_from}
+use Rattle.pd_restore.specs.Pools.{shape_content}
+use Rattle.pd_repair.specs.Snaps.{seen_shape_from}
 use Rattle.pd_repair.proofs.SuperLemmas.{made_unwritten, never_saved, never_seen, told_seen}
 use Rattle.pd_repair.proofs.lost.repair_seen_shared.Goals as goal
 

@@ -1,6 +1,6 @@
 use Rattle.std.proofs.Common.{rules}
 use Rattle.pd_laid.specs.Salvage.{salvage_from}
-use Rattle.pd_restore.specs.Made.{pool_content}
+use Rattle.pd_restore.specs.Pools.{pool_content}
 use Rattle.pd_repair.proofs.SuperLemmas.{never_saved}
 use Rattle.pd_repair.proofs.repair.repair_from.Goals as goal
 

@@ -1,9 +1,9 @@
 use Rattle.std.proofs.Common.{ℕ, ◌+◌, subst}
 use Rattle.std.proofs.lemmas.Result.{err_from_is_err_and}
 use Rattle.pd_laid.specs.Salvage.{salvage_from}
-use Rattle.pd_restore.specs.Made.{pool_content}
+use Rattle.pd_restore.specs.Pools.{pool_content}
 use Rattle.pd_repair.specs.Repaired.{CountsRepair}
-use Rattle.pd_repair.proofs.BrokenLemmas.{other_named}
+use Rattle.pd_repair.proofs.SuperLemmas.{other_named}
 use Rattle.pd_repair.proofs.SuperLemmas.{never_repaired, other_reads, repaired_sound}
 use Rattle.pd_repair.proofs.repair.repair_thin.Goals as goal
 

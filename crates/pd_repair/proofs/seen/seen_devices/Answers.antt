@@ -1,9 +1,9 @@
 use Rattle.std.proofs.Common.{get_or, refl}
-use Rattle.pd_runs.specs.Places.{runs_from}
-use Rattle.pd_restore.specs.Overflowing.{IsRunIn}
-use Rattle.pd_restore.proofs.PlainDataLemmas.{all_front, all_rest}
+use Rattle.pd_kinds.proofs.KindsListLemmas.{all_front, all_rest}
+use Rattle.pd_meaning_thin.specs.Packed.{runs_from}
+use Rattle.pd_restore.specs.ShapeNeed.{IsRunIn}
 use Rattle.pd_repair.specs.Snaps.{is_twice, seen_devices}
-use Rattle.pd_repair.proofs.SeeingLemmas.{devices_next, devices_over, no_saved}
+use Rattle.pd_repair.proofs.SnapLemmas.{devices_next, devices_over, no_saved}
 use Rattle.pd_repair.proofs.seen.seen_devices.Goals as goal
 
 pub loop-device-init : goal.loop-device-init

@@ -1,7 +1,7 @@
 use Rattle.std.proofs.Common.{◌≡◌, ◌++◌, drop}
 use Rattle.std.specs.List.{AllByRecursion}
-use Rattle.pd_runs.specs.Places.{runs_from}
-use Rattle.pd_restore.specs.Overflowing.{IsRunIn}
+use Rattle.pd_meaning_thin.specs.Packed.{runs_from}
+use Rattle.pd_restore.specs.ShapeNeed.{IsRunIn}
 use Rattle.pd_repair.specs.Snaps.{is_twice, seen_devices}
 use Rattle.pd_repair.proofs.seen.seen_devices.Given as goal
 

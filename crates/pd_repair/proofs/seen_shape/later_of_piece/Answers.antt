@@ -1,7 +1,7 @@
 use Rattle.std.proofs.Common.{ℕ, List, ap, get_or, max, sym, ◌∙◌}
-use Rattle.pd_runs.specs.Places.{runs_from}
-use Rattle.pd_restore.specs.Overflowing.{IsRunIn}
-use Rattle.pd_restore.proofs.PlainDataLemmas.{all_front}
+use Rattle.pd_kinds.proofs.KindsListLemmas.{all_front}
+use Rattle.pd_meaning_thin.specs.Packed.{runs_from}
+use Rattle.pd_restore.specs.ShapeNeed.{IsRunIn}
 use Rattle.pd_repair.specs.Snaps.{is_twice}
 use Rattle.pd_repair.proofs.SnapLemmas.{leaf_snap}
 use Rattle.pd_repair.proofs.seen_shape.later_of_piece.Goals as goal

@@ -1,10 +1,10 @@
 use Rattle.std.proofs.Common.{get_or, refl, take}
-use Rattle.pd_runs.specs.Places.{runs_from}
+use Rattle.pd_kinds.proofs.KindsListLemmas.{all_rest}
+use Rattle.pd_meaning_thin.specs.Packed.{runs_from}
 use Rattle.pd_salvage.specs.SavedShape.{runs_of_pieces}
-use Rattle.pd_restore.specs.Overflowing.{IsRunIn}
-use Rattle.pd_restore.proofs.PlainDataLemmas.{all_rest}
+use Rattle.pd_restore.specs.ShapeNeed.{IsRunIn}
 use Rattle.pd_repair.specs.Snaps.{is_twice, seen_shaped}
-use Rattle.pd_repair.proofs.SeeingLemmas.{no_shaped, pieces_left, pieces_there, shaped_next, shaped_over}
+use Rattle.pd_repair.proofs.SnapLemmas.{no_shaped, pieces_left, pieces_there, shaped_next, shaped_over}
 use Rattle.pd_repair.proofs.seen_shape.seen_devices.Goals as goal
 
 pub loop-device-init : goal.loop-device-init

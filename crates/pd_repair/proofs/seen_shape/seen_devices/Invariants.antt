@@ -2,9 +2,9 @@ use Rattle.std.proofs.Common.{◌≡◌, ◌++◌, List, drop, length}
 use Rattle.std.specs.List.{AllByRecursion}
 use Rattle.std.specs.Prelude.{sum_by}
 use Rattle.pd_kinds.specs.Meaning.{Mapping}
-use Rattle.pd_runs.specs.Places.{runs_from}
+use Rattle.pd_meaning_thin.specs.Packed.{runs_from}
 use Rattle.pd_salvage.specs.declared.saved_shape.ShapedDevice.{ShapedDevice}
-use Rattle.pd_restore.specs.Overflowing.{IsRunIn}
+use Rattle.pd_restore.specs.ShapeNeed.{IsRunIn}
 use Rattle.pd_repair.specs.Snaps.{is_twice, seen_shaped, snaps_of}
 use Rattle.pd_repair.proofs.seen_shape.seen_devices.Given as goal
 

@@ -1,10 +1,10 @@
 use Rattle.std.proofs.Common.{get_or, refl, sym, ◌∙◌}
-use Rattle.pd_runs.specs.Places.{runs_from}
+use Rattle.pd_kinds.proofs.KindsListLemmas.{all_rest}
+use Rattle.pd_meaning_thin.specs.Packed.{runs_from}
 use Rattle.pd_salvage.specs.SavedShape.{runs_of_piece}
-use Rattle.pd_restore.specs.Overflowing.{IsRunIn}
-use Rattle.pd_restore.proofs.PlainDataLemmas.{all_rest}
+use Rattle.pd_restore.specs.ShapeNeed.{IsRunIn}
 use Rattle.pd_repair.specs.Snaps.{is_twice}
-use Rattle.pd_repair.proofs.SeeingLemmas.{behind_next, none_over, piece_next, pieces_over}
+use Rattle.pd_repair.proofs.SnapLemmas.{behind_next, none_over, piece_next, pieces_over}
 use Rattle.pd_repair.proofs.seen_shape.snap_of_pieces.Goals as goal
 
 pub loop-piece-init : goal.loop-piece-init

@@ -1,8 +1,8 @@
 use Rattle.std.proofs.Common.{◌≡◌, List, drop}
 use Rattle.std.specs.List.{AllByRecursion}
 use Rattle.pd_kinds.specs.Meaning.{Mapping}
-use Rattle.pd_runs.specs.Places.{runs_from}
-use Rattle.pd_restore.specs.Overflowing.{IsRunIn}
+use Rattle.pd_meaning_thin.specs.Packed.{runs_from}
+use Rattle.pd_restore.specs.ShapeNeed.{IsRunIn}
 use Rattle.pd_salvage.specs.SavedShape.{runs_of_pieces}
 use Rattle.pd_repair.specs.Snaps.{is_twice, mappings_of_pieces, snap_after, snaps_of}
 use Rattle.pd_repair.proofs.seen_shape.snap_of_pieces.Given as goal

@@ -1,11 +1,12 @@
 use Rattle.std.proofs.Common.{get_or, map, refl}
-use Rattle.pd_shapes.specs.SharedText.{mappings_of_runs}
-use Rattle.pd_runs.specs.Places.{runs_from}
+use Rattle.pd_kinds.proofs.KindsListLemmas.{all_front, all_rest}
+use Rattle.pd_laid.specs.PoolText.{mappings_of_runs}
+use Rattle.pd_meaning_thin.specs.Packed.{runs_from}
 use Rattle.pd_salvage.specs.SavedShape.{leaf_parts}
-use Rattle.pd_restore.specs.Overflowing.{IsRunIn}
-use Rattle.pd_restore.proofs.PlainDataLemmas.{all_front, all_rest, no_leaf}
+use Rattle.pd_restore.specs.ShapeNeed.{IsRunIn}
+use Rattle.pd_restore.proofs.PlainDataLemmas.{no_leaf}
 use Rattle.pd_repair.specs.Snaps.{is_twice, snaps_of}
-use Rattle.pd_repair.proofs.SeeingLemmas.{leaves_next, leaves_over}
+use Rattle.pd_repair.proofs.SnapLemmas.{leaves_next, leaves_over}
 use Rattle.pd_repair.proofs.seen_shape.snaps_of_leaves.Goals as goal
 
 pub loop-leaf-init : goal.loop-leaf-init

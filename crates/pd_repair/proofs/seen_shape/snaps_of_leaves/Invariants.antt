@@ -1,9 +1,9 @@
 use Rattle.std.proofs.Common.{◌≡◌, ◌++◌, drop, map}
 use Rattle.std.specs.List.{AllByRecursion}
-use Rattle.pd_shapes.specs.SharedText.{mappings_of_runs}
-use Rattle.pd_runs.specs.Places.{runs_from}
+use Rattle.pd_laid.specs.PoolText.{mappings_of_runs}
+use Rattle.pd_meaning_thin.specs.Packed.{runs_from}
 use Rattle.pd_salvage.specs.SavedShape.{leaf_parts}
-use Rattle.pd_restore.specs.Overflowing.{IsRunIn}
+use Rattle.pd_restore.specs.ShapeNeed.{IsRunIn}
 use Rattle.pd_repair.specs.Snaps.{is_twice, snaps_of}
 use Rattle.pd_repair.proofs.seen_shape.snaps_of_leaves.Given as goal
 

@@ -1,8 +1,8 @@
 use Rattle.std.proofs.Common.{arith}
 use Rattle.pd_restoring.proofs.EndingLemmas.{resting_short}
-use Rattle.pd_restore.specs.Given.{ended_state}
-use Rattle.pd_restore.specs.Made.{shape_content}
-use Rattle.pd_restore.proofs.MadeLemmas.{given, known_failed, known_lacking, known_made, known_refused, known_short, text_given}
+use Rattle.pd_restore.specs.Pools.{ended_state}
+use Rattle.pd_restore.specs.Pools.{shape_content}
+use Rattle.pd_restore.proofs.BeginLemmas.{given, known_failed, known_lacking, known_made, known_refused, known_short, text_given}
 use Rattle.pd_restore.proofs.known.restore_known.Goals as goal
 
 pub returns-then-need-room-clause-made : goal.returns-then-need-room-clause-made
@@ -31,9 +31,8 @@ unreachable-requires-in-Text g c =
     c.requires.here some.needs (omega (arith, c.if-need-room.false)) c.in-Text.field-0
     (rw c.in-Text.is at (c.in-Err.ensures.restored (given some.gives.text) (text_given some.gives.text c.args.begun some.gives.leaves)))
 
-pub unreachable-requires-in-NoRoom : goal.unreachable-requires-in-NoRoom
-unreachable-requires-in-NoRoom g c =
-    let some = c.requires.some in
-    known_short some.shape c.args.begun some.gives c.args.need c.args.room (ended_state c.restore_begun.new.source) (g.D.Device.state c.args.dev.now) (g.D.Device.state c.restore_begun.new.dev)
-    c.requires.here some.needs (omega (arith, c.if-need-room.false)) c.in-NoRoom.need c.in-NoRoom.blocks
-    (rw c.in-NoRoom.is at (c.in-Err.ensures.restored (given some.gives.text) (text_given some.gives.text c.args.begun some.gives.leaves)))
+pub returns-in-NoRoom-clause-made : goal.returns-in-NoRoom-clause-made
+returns-in-NoRoom-clause-made g c w gives needs =
+    absurd (known_short w c.args.begun gives c.args.need c.args.room (ended_state c.restore_begun.new.source) (g.D.Device.state c.args.dev.now) (g.D.Device.state c.restore_begun.new.dev)
+    c.requires.here needs (omega (arith, c.if-need-room.false)) c.in-NoRoom.more c.in-NoRoom.blocks
+    (rw c.in-NoRoom.is at (c.in-Err.ensures.restored (given gives.text) (text_given gives.text c.args.begun gives.leaves))))

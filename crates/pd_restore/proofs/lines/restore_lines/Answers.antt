@@ -1,7 +1,7 @@
 use Rattle.std.proofs.Common.{rules, [], ◌∷◌, ◌++◌, refl, true, false, ◌∙◌, arith}
 use Rattle.pd_draft.specs.DraftState.{draft_state}
-use Rattle.pd_draft.proofs.StaysLemmas.{closed_start, closed_then}
-use Rattle.pd_spells.specs.ThinText.{end_line}
+use Rattle.pd_draft.proofs.DraftLemmas.{closed_start, closed_then}
+use Rattle.pd_grammar.specs.ThinText.{end_line}
 use Rattle.pd_restore.proofs.ReadingLemmas.{steps_as}
 use Rattle.pd_restoring.proofs.ReadingLemmas.{one_later, keeps_source}
 use Rattle.pd_restore.proofs.lines.restore_lines.Goals as goal

@@ -1,9 +1,9 @@
 use Rattle.std.proofs.Common.{◌≡◌, ◌-◌, ◌^◌, List}
 use Rattle.pd_draft.specs.Closed.{StaysClosed}
-use Rattle.pd_draft.specs.Placed.{DraftState}
+use Rattle.pd_draft.specs.Closed.{DraftState}
 use Rattle.pd_image.specs.Source.{KeepsSource}
 use Rattle.pd_lines.specs.Reader.{lines_of}
-use Rattle.pd_spells.specs.ThinText.{Line}
+use Rattle.pd_grammar.specs.ThinText.{Line}
 use Rattle.pd_restore.specs.Reading.{Reading, CanRead, ReadsLinesOn}
 use Rattle.pd_restore.proofs.lines.restore_lines.Given as goal
 

@@ -1,9 +1,9 @@
 use Rattle.std.proofs.Common.{[], ◌∷◌, ◌++◌, ap, arith}
 use Rattle.pd_draft.specs.DraftState.{draft_state}
 use Rattle.pd_grammar.specs.Texts.{Reading, lines_after}
-use Rattle.pd_grammar.specs.Words.{split}
+use Rattle.pd_grammar.specs.Texts.{split}
 use Rattle.pd_lines.specs.Reader.{held_of}
-use Rattle.pd_spells.specs.ThinText.{Line, end_line, pool_format}
+use Rattle.pd_grammar.specs.ThinText.{Line, end_line, pool_format}
 use Rattle.pd_texts.specs.ThinLine.{line_of, thin_meant}
 use Rattle.pd_texts.specs.ThinState.{ThinStands, first_of}
 use Rattle.pd_restoring.proofs.ReadingLemmas.{line_given, line_told, end_given, end_told, later_read, later_take}

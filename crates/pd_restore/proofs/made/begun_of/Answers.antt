@@ -1,10 +1,10 @@
 use Rattle.std.proofs.Common.{ap, sym, subst, refl, ◌∙◌, []}
 use Rattle.pd_grammar.specs.Texts.{whole}
 use Rattle.pd_grammar.specs.Spelling.{accepted}
-use Rattle.pd_grammar.proofs.LineLemmas.{AreRead}
+use Rattle.pd_grammar.proofs.GrammarLemmas.{AreRead}
 use Rattle.pd_salvage.specs.Saved.{pool_of}
 use Rattle.pd_laid.specs.Shape.{shape_of}
-use Rattle.pd_spells.specs.ThinText.{pool_format}
+use Rattle.pd_grammar.specs.ThinText.{pool_format}
 use Rattle.pd_restore.specs.SavedLines.{saved_text}
 use Rattle.pd_restore.proofs.SavedTextLemmas.{all_lines, saved_lawful, saved_read, saved_reading, saved_spells}
 use Rattle.pd_restore.proofs.made.begun_of.Goals as goal

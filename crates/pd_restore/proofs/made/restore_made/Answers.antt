@@ -3,8 +3,8 @@ use Rattle.pd_laid.specs.Shape.{shape_of}
 use Rattle.pd_salvage.specs.Saved.{pool_of}
 use Rattle.pd_restoring.specs.Made.{ending_of, lacking}
 use Rattle.pd_restoring.proofs.EndingLemmas.{resting}
-use Rattle.pd_restore.specs.Made.{pool_content}
-use Rattle.pd_restore.proofs.MadeLemmas.{pool_made}
+use Rattle.pd_restore.specs.Pools.{pool_content}
+use Rattle.pd_restore.proofs.BeginLemmas.{pool_made}
 use Rattle.pd_restore.proofs.made.restore_made.Goals as goal
 
 pub returns-in_default-clause-made : goal.returns-in_default-clause-made

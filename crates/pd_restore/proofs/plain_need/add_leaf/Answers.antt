@@ -1,11 +1,11 @@
-use Rattle.std.proofs.Common.{List, ◌++◌, ◌∷◌, ap, refl, sym, subst, take, ◌∙◌, arith}
+use Rattle.std.proofs.Common.{List, ◌++◌, ap, refl, sym, subst, take, ◌∙◌, arith}
 use Rattle.std.specs.List.{AllByRecursion, range_with_len}
-use Rattle.pd_runs.specs.Places.{runs_from}
-use Rattle.pd_thin_meaning.specs.declared.joined.Run.{Run}
-use Rattle.pd_restore.specs.declared.span.RunSpan.{RunSpan}
-use Rattle.pd_restore.specs.Overflowing.{copies}
-use Rattle.pd_restore.specs.PlainNeed.{runs_used}
-use Rattle.pd_restore.specs.Spans.{in_runs}
+use Rattle.pd_meaning_thin.specs.Packed.{runs_from}
+use Rattle.pd_meaning_thin.specs.declared.joined.Run.{Run}
+use Rattle.pd_restore.specs.declared.saved_lines.RunSpan.{RunSpan}
+use Rattle.pd_restore.specs.ShapeNeed.{copies}
+use Rattle.pd_restore.specs.ShapeNeed.{runs_used}
+use Rattle.pd_restore.specs.SavedLines.{in_runs}
 use Rattle.pd_restore.proofs.SavedNeedLemmas.{IsWithin, counts_all, counts_next}
 use Rattle.pd_restore.proofs.ShapeLineLemmas.{over_behind, row_left, row_taken}
 use Rattle.pd_restore.proofs.plain_need.add_leaf.Goals as goal

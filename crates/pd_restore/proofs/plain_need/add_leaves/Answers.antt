@@ -1,9 +1,10 @@
 use Rattle.std.proofs.Common.{List, ◌++◌, ◌<◌, ap, get_or, length, refl, drop, ◌∙◌, arith}
+use Rattle.pd_kinds.proofs.KindsListLemmas.{all_front, all_rest}
 use Rattle.pd_count.specs.Counted.{count_of}
-use Rattle.pd_runs.specs.Places.{runs_from}
-use Rattle.pd_thin_meaning.specs.declared.joined.Run.{Run}
-use Rattle.pd_restore.specs.PlainNeed.{leaves_used}
-use Rattle.pd_restore.proofs.PlainDataLemmas.{all_front, all_rest, leaf_next, leaves_over, no_leaf}
+use Rattle.pd_meaning_thin.specs.Packed.{runs_from}
+use Rattle.pd_meaning_thin.specs.declared.joined.Run.{Run}
+use Rattle.pd_restore.specs.ShapeNeed.{leaves_used}
+use Rattle.pd_restore.proofs.PlainDataLemmas.{leaf_next, leaves_over, no_leaf}
 use Rattle.pd_restore.proofs.SavedNeedLemmas.{IsWithin, counts_all}
 use Rattle.pd_restore.proofs.plain_need.add_leaves.Goals as goal
 

@@ -1,9 +1,9 @@
 use Rattle.std.proofs.Common.{◌≡◌, ◌++◌, ℕ, List, drop}
 use Rattle.std.specs.List.{AllByRecursion}
 use Rattle.pd_count.specs.Counted.{count_of}
-use Rattle.pd_runs.specs.Places.{runs_from}
-use Rattle.pd_restore.specs.Overflowing.{HasCountedThrice}
-use Rattle.pd_restore.specs.PlainNeed.{leaves_used}
+use Rattle.pd_meaning_thin.specs.Packed.{runs_from}
+use Rattle.pd_restore.specs.ShapeNeed.{HasCountedThrice}
+use Rattle.pd_restore.specs.ShapeNeed.{leaves_used}
 use Rattle.pd_restore.proofs.SavedNeedLemmas.{CountsFirst, IsWithin}
 use Rattle.pd_restore.proofs.plain_need.add_leaves.Given as goal
 

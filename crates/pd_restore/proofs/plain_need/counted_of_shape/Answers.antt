@@ -1,7 +1,7 @@
-use Rattle.std.proofs.Common.{[], ◌++◌, ap, ◌∙◌}
+use Rattle.std.proofs.Common.{[], ap, ◌∙◌}
 use Rattle.pd_count.specs.Counted.{count_of}
 use Rattle.pd_salvage.specs.declared.saved.SavedHead.{SavedHead}
-use Rattle.pd_restore.specs.PlainNeed.{leaves_used}
+use Rattle.pd_restore.specs.ShapeNeed.{leaves_used}
 use Rattle.pd_restore.proofs.PlainDataLemmas.{counts_pool}
 use Rattle.pd_restore.proofs.ShapePartLemmas.{leaf_runs_within, own_runs_within, uses_below}
 use Rattle.pd_restore.proofs.plain_need.counted_of_shape.Goals as goal

@@ -1,6 +1,6 @@
 use Rattle.std.proofs.Common.{◌∙◌}
 use Rattle.pd_laid.specs.Shape.{pool_of}
-use Rattle.pd_spells.specs.ThinNeed.{mapped_data}
+use Rattle.pd_grammar.specs.Need.{mapped_data}
 use Rattle.pd_salvage.specs.SavedShape.{held_shape}
 use Rattle.pd_restore.proofs.SavedNeedLemmas.{over_all}
 use Rattle.pd_restore.proofs.plain_need.over_of.Goals as goal

@@ -1,12 +1,12 @@
 use Rattle.std.proofs.Common.{rules}
-use Rattle.pd_spells.specs.ThinText.{pool_format}
-use Rattle.pd_shapes.specs.PoolText.{pool_need_so_far}
+use Rattle.pd_grammar.specs.ThinText.{pool_format}
+use Rattle.pd_laid.specs.PoolText.{pool_need_so_far}
 use Rattle.pd_restoring.proofs.ReadingLemmas.{end_says, later_take}
 use Rattle.pd_texts.specs.Reader.{LeavesOf}
 use Rattle.pd_texts.specs.ThinState.{first_of}
 use Rattle.pd_draft.specs.DraftState.{draft_state}
 use Rattle.pd_restore.specs.Whole.{begun_lines}
-use Rattle.pd_restore.proofs.PoolLemmas.{writes_of}
+use Rattle.pd_restore.proofs.UnsharedParts.{writes_of}
 use Rattle.pd_restore.proofs.pool.write_pool.Goals as goal
 
 pub returns-in_err-restore_lines-clause-says : goal.returns-in_err-restore_lines-clause-says

@@ -1,10 +1,10 @@
 use Rattle.std.proofs.Common.{sym, ◌∙◌, ap}
-use Rattle.pd_kinds.specs.ThinSuper.{thin_super_block}
-use Rattle.pd_spells.specs.ThinText.{pool_format}
-use Rattle.pd_shapes.specs.PoolText.{MeansPoolShape, pool_need_so_far}
+use Rattle.pd_kinds.specs.ThinFormat.{thin_super_block}
+use Rattle.pd_grammar.specs.ThinText.{pool_format}
+use Rattle.pd_laid.specs.PoolText.{MeansPoolShape, pool_need_so_far}
 use Rattle.pd_restoring.proofs.ReadingLemmas.{accepted_whole}
 use Rattle.pd_restore.specs.Whole.{head_of_pool}
-use Rattle.pd_restore.proofs.PoolLemmas.{fields_are, head_is, super_is, behind_is, whole_bytes}
+use Rattle.pd_restore.proofs.UnsharedParts.{fields_are, head_is, super_is, behind_is, whole_bytes}
 use Rattle.pd_restore.proofs.ReadingLemmas.{build_is}
 use Rattle.pd_restore.proofs.pool.write_rest.Goals as goal
 

@@ -1,6 +1,6 @@
 use Rattle.std.proofs.Common.{ℕ, List, [], ap, sym, subst, ◌∙◌}
 use Rattle.pd_salvage.specs.declared.saved.SavedHead.{SavedHead}
-use Rattle.pd_restore.specs.Overflowing.{HasCountedThrice}
+use Rattle.pd_restore.specs.ShapeNeed.{HasCountedThrice}
 use Rattle.pd_restore.proofs.SavedNeedLemmas.{data_is, runs_within}
 use Rattle.pd_restore.proofs.saved_need.counted_of_saved.Goals as goal
 

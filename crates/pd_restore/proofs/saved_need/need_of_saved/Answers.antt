@@ -1,5 +1,5 @@
 use Rattle.std.proofs.Common.{ℕ, List, ap, ◌∙◌, map}
-use Rattle.pd_spells.specs.ThinNeed.{overflows_in}
+use Rattle.pd_grammar.specs.Need.{overflows_in}
 use Rattle.pd_salvage.specs.declared.saved.SavedDevice.{SavedDevice}
 use Rattle.pd_restore.proofs.SavedNeedLemmas.{data_is, need_exact}
 use Rattle.pd_restore.proofs.saved_need.need_of_saved.Goals as goal

@@ -1,5 +1,5 @@
 use Rattle.std.proofs.Common.{◌∙◌}
-use Rattle.pd_spells.specs.ThinNeed.{mapped_data}
+use Rattle.pd_grammar.specs.Need.{mapped_data}
 use Rattle.pd_salvage.specs.Saved.{pool_of}
 use Rattle.pd_restore.proofs.SavedNeedLemmas.{over_all}
 use Rattle.pd_restore.proofs.saved_need.over_of.Goals as goal

@@ -1,9 +1,9 @@
 use Rattle.std.proofs.Common.{ap, sym, subst, refl, ◌∙◌, []}
 use Rattle.pd_grammar.specs.Texts.{whole}
 use Rattle.pd_grammar.specs.Spelling.{accepted}
-use Rattle.pd_grammar.proofs.LineLemmas.{AreRead}
+use Rattle.pd_grammar.proofs.GrammarLemmas.{AreRead}
 use Rattle.pd_salvage.specs.SavedShape.{held_shape}
-use Rattle.pd_spells.specs.ThinText.{pool_format}
+use Rattle.pd_grammar.specs.ThinText.{pool_format}
 use Rattle.pd_restore.specs.ShapeLines.{lines_left, shape_text}
 use Rattle.pd_restore.proofs.ShapeTextLemmas.{all_shape_lines, shape_lawful, shape_read, shape_reading, shape_spells}
 use Rattle.pd_restore.proofs.shape_made.begun_of_shape.Goals as goal

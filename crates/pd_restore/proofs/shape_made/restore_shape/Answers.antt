@@ -1,6 +1,6 @@
 use Rattle.pd_salvage.specs.SavedShape.{held_shape}
 use Rattle.pd_restoring.proofs.EndingLemmas.{resting}
-use Rattle.pd_restore.specs.Made.{lacking, shape_content}
+use Rattle.pd_restore.specs.Pools.{lacking, shape_content}
 use Rattle.pd_restore.proofs.shape_made.restore_shape.Goals as goal
 
 pub returns-in_default-clause-made : goal.returns-in_default-clause-made

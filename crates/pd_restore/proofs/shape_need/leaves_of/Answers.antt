@@ -1,5 +1,5 @@
 use Rattle.std.proofs.Common.{refl}
-use Rattle.pd_runs.specs.Places.{runs_from}
+use Rattle.pd_meaning_thin.specs.Packed.{runs_from}
 use Rattle.pd_restore.proofs.ShapeNeedLemmas.{no_pieces, pieces_all, pieces_more}
 use Rattle.pd_restore.proofs.shape_need.leaves_of.Goals as goal
 

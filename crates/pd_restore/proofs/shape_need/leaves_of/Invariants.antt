@@ -1,5 +1,5 @@
 use Rattle.std.proofs.Common.{take}
-use Rattle.pd_runs.specs.Places.{runs_from}
+use Rattle.pd_meaning_thin.specs.Packed.{runs_from}
 use Rattle.pd_restore.specs.ShapeNeed.{CountsPieces}
 use Rattle.pd_restore.proofs.shape_need.leaves_of.Given as goal
 

@@ -1,12 +1,12 @@
 use Rattle.std.proofs.Common.{◌≡◌, ◌∷◌, List, arith, ap, map, sym, take, ◌∙◌}
 use Rattle.std.proofs.lemmas.List.Sums.{sum_by-cons}
-use Rattle.pd_runs.specs.Places.{runs_from}
-use Rattle.pd_spells.specs.ThinText as text
-use Rattle.pd_spells.specs.ThinText.{number_in}
-use Rattle.pd_thin_meaning.specs.declared.joined.Run.{Run}
-use Rattle.pd_thin_meaning.specs.Joined.{spelled}
-use Rattle.pd_restore.specs.declared.span.RunSpan.{RunSpan}
-use Rattle.pd_restore.specs.Spans.{in_runs}
+use Rattle.pd_meaning_thin.specs.Packed.{runs_from}
+use Rattle.pd_grammar.specs.ThinText as text
+use Rattle.pd_grammar.specs.ThinText.{number_in}
+use Rattle.pd_meaning_thin.specs.declared.joined.Run.{Run}
+use Rattle.pd_meaning_thin.specs.Runs.{spelled}
+use Rattle.pd_restore.specs.declared.saved_lines.RunSpan.{RunSpan}
+use Rattle.pd_restore.specs.SavedLines.{in_runs}
 use Rattle.pd_restore.proofs.ShapeLineLemmas.{over_behind, row_left, row_taken}
 use Rattle.pd_restore.proofs.shape_need.mappings_of.Goals as goal
 

@@ -1,8 +1,8 @@
 use Rattle.std.proofs.Common.{◌≡◌, ◌+◌, drop, map, take}
-use Rattle.pd_runs.specs.Places.{runs_from}
-use Rattle.pd_spells.specs.ThinText.{number_in}
-use Rattle.pd_thin_meaning.specs.Joined.{spelled}
-use Rattle.pd_restore.specs.Spans.{behind_runs, in_runs}
+use Rattle.pd_meaning_thin.specs.Packed.{runs_from}
+use Rattle.pd_grammar.specs.ThinText.{number_in}
+use Rattle.pd_meaning_thin.specs.Runs.{spelled}
+use Rattle.pd_restore.specs.SavedLines.{behind_runs, in_runs}
 use Rattle.pd_restore.proofs.shape_need.mappings_of.Given as goal
 
 abbrev pub invariant-loop-run : goal.invariant-loop-run

@@ -1,5 +1,5 @@
 use Rattle.std.proofs.Common.{List, ap, length, refl}
-use Rattle.pd_shared_devices.specs.declared.need.NeedCounts.{NeedCounts}
+use Rattle.pd_devices.specs.declared.growing.NeedCounts.{NeedCounts}
 use Rattle.pd_salvage.specs.declared.saved.SavedHead.{SavedHead}
 use Rattle.pd_salvage.specs.declared.saved_shape.SavedLeaf.{SavedLeaf}
 use Rattle.pd_salvage.specs.declared.saved_shape.ShapedDevice.{ShapedDevice}

@@ -1,5 +1,5 @@
 use Rattle.std.proofs.Common.{[], ◌∙◌, ◌++◌}
-use Rattle.pd_restore.specs.Overflowing.{data_of_runs}
+use Rattle.pd_restore.specs.ShapeNeed.{data_of_runs}
 use Rattle.pd_restore.proofs.SavedNeedLemmas.{over_all}
 use Rattle.pd_restore.proofs.shape_need.over_of.Goals as goal
 

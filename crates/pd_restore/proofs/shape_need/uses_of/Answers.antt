@@ -2,7 +2,7 @@ use Rattle.std.proofs.Common.{List, subst}
 use Rattle.std.specs.List.{flat_map}
 use Rattle.std.proofs.lemmas.List.{take_all}
 use Rattle.pd_salvage.specs.declared.saved_shape.SavedPiece.{SavedPiece}
-use Rattle.pd_restore.specs.Overflowing.{HasCountedThrice}
+use Rattle.pd_restore.specs.ShapeNeed.{HasCountedThrice}
 use Rattle.pd_restore.specs.ShapeNeed.{uses_of_saved}
 use Rattle.pd_restore.proofs.shape_need.uses_of.Goals as goal
 

@@ -1,6 +1,6 @@
 use Rattle.std.proofs.Common.{◌≡◌, take}
 use Rattle.std.specs.List.{flat_map}
-use Rattle.pd_restore.specs.Overflowing.{HasCountedThrice}
+use Rattle.pd_restore.specs.ShapeNeed.{HasCountedThrice}
 use Rattle.pd_restore.specs.ShapeNeed.{uses_of_saved}
 use Rattle.pd_restore.proofs.shape_need.uses_of.Given as goal
 

@@ -1,5 +1,5 @@
 use Rattle.std.proofs.Common.{◌≡◌, ◌+◌, ◌-◌, ap, arith, drop, refl, subst, take, ◌∙◌}
-use Rattle.pd_runs.specs.Places.{runs_from}
+use Rattle.pd_meaning_thin.specs.Packed.{runs_from}
 use Rattle.pd_restore.specs.declared.shape_need.TreeCounts.{TreeCounts}
 use Rattle.pd_restore.specs.ShapeNeed.{CountsPieces}
 use Rattle.pd_restore.proofs.ShapeNeedLemmas.{one_device}

@@ -1,8 +1,8 @@
 use Rattle.std.proofs.Common.{◌+◌, ap, map, refl, sym, take, ◌∙◌}
-use Rattle.pd_spells.specs.Need.{nodes_for}
-use Rattle.pd_shapes.proofs.LeafRuns.{number_mapped}
-use Rattle.pd_runs.specs.Places.{runs_from}
-use Rattle.pd_thin_meaning.specs.Joined.{spelled}
+use Rattle.pd_grammar.specs.Need.{nodes_for}
+use Rattle.pd_laid.proofs.LeafRuns.{number_mapped}
+use Rattle.pd_meaning_thin.specs.Packed.{runs_from}
+use Rattle.pd_meaning_thin.specs.Runs.{spelled}
 use Rattle.pd_restore.specs.declared.shape_need.LeafCounts.{LeafCounts}
 use Rattle.pd_restore.proofs.ShapeNeedLemmas.{own_piece, used_piece}
 use Rattle.pd_restore.proofs.shape_need.with_piece.Goals as goal

@@ -1,5 +1,5 @@
 use Rattle.pd_restore.proofs.UnsharedLines.{pool_after, leaf_after, device_after, use_after, map_after}
-use Rattle.pd_restore.proofs.UnsharedLemmas.{as_gathered}
+use Rattle.pd_restore.proofs.UnsharedLines.{as_gathered}
 use Rattle.pd_restore.proofs.unshared.put_line.Goals as goal
 
 pub add_device-requires-clause-gathered : goal.add_device-requires-clause-gathered

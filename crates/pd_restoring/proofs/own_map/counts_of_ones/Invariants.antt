@@ -1,6 +1,6 @@
 use Rattle.std.proofs.Common.{◌≡◌, ℕ}
 use Rattle.pd_count.specs.Counted.{count_of}
-use Rattle.pd_laid_once.specs.Once.{ones_below}
+use Rattle.pd_laws_laid.specs.Once.{ones_below}
 use Rattle.pd_restoring.proofs.own_map.counts_of_ones.Given as goal
 
 abbrev pub invariant-loop-b : goal.invariant-loop-b

@@ -1,9 +1,10 @@
 use Rattle.std.proofs.Common.{◌≡◌, ap, ◌∙◌, arith}
+use Rattle.pd_kinds.proofs.ResultLemmas.{if_ok_with, on_ok_both}
 use Rattle.pd_draft.specs.DraftState.{draft_state}
 use Rattle.pd_count.specs.Counted.{count_of}
-use Rattle.pd_spells.specs.Need.{need_meta_map}
+use Rattle.pd_grammar.specs.Need.{need_meta_map}
 use Rattle.pd_smwrite.specs.Map.{meta_map_need}
-use Rattle.pd_restoring.proofs.MapLemmas.{ones_need, none_own, stored_blocks, stored_root, on_ok_both, if_ok_with}
+use Rattle.pd_restoring.proofs.MapLemmas.{ones_need, none_own, stored_blocks, stored_root}
 use Rattle.pd_restoring.proofs.own_map.write_own_map.Goals as goal
 use Rattle.pd_restoring.proofs.own_map.write_own_map.Given as given
 

@@ -1,5 +1,5 @@
 use Rattle.pd_kinds.specs.Node.{node_bad}
-use Rattle.pd_kinds.specs.RuleSet.{has_rule}
+use Rattle.pd_kinds.specs.Rule.{has_rule}
 use Rattle.pd_laid.specs.Salvage.{is_damaged}
 use Rattle.pd_salvage.proofs.WayLemmas.{sound_is}
 use Rattle.pd_salvage.proofs.way.is_sound.Goals as goal

@@ -1,7 +1,7 @@
 use Rattle.std.proofs.Common.{[], ◌∷◌, ◌+◌, ◌%◌, ◌^◌, ◌∙◌}
 use Rattle.std.proofs.lemmas.List.{append_assoc}
-use Rattle.pd_salvage_shapes.specs.Numbers.{range_numbers}
-use Rattle.pd_salvage_shapes.proofs.NumberLemmas.{longer_range}
+use Rattle.pd_salvage_shapes.specs.Note.{range_numbers}
+use Rattle.pd_salvage_shapes.proofs.VisitingLemmas.{longer_range}
 use Rattle.pd_salvage_shapes.proofs.numbers.add_range.Goals as goal
 
 pub loop-i-preserved : goal.loop-i-preserved

@@ -1,6 +1,6 @@
 use Rattle.std.proofs.Common.{◌≡◌, take}
 use Rattle.std.specs.List.{flat_map}
-use Rattle.pd_salvage_shapes.specs.Numbers.{range_numbers}
+use Rattle.pd_salvage_shapes.specs.Note.{range_numbers}
 use Rattle.pd_salvage_shapes.proofs.numbers.list_of.Given as goal
 
 -- the numbers of the ranges before this one were added

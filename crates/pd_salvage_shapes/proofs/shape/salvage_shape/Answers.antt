@@ -2,7 +2,7 @@ use Rattle.std.proofs.Common.{List, ap₂, subst, ◌∙◌}
 use Rattle.pd_salvage.specs.SavedShape.{held_shape}
 use Rattle.pd_salvage_shapes.specs.declared.tops.Top.{Top}
 use Rattle.pd_salvage_shapes.specs.declared.visiting.Seen.{Seen}
-use Rattle.pd_salvage_shapes.specs.Seen.{SeesAll}
+use Rattle.pd_salvage_shapes.specs.Tops.{SeesAll}
 use Rattle.pd_salvage_shapes.specs.SeenShape.{seen_shape}
 use Rattle.pd_salvage_shapes.proofs.TableLemmas.{told_shape}
 use Rattle.pd_salvage_shapes.proofs.shape.salvage_shape.Goals as goal

@@ -1,4 +1,4 @@
-use Rattle.pd_salvage_shapes.proofs.ShapeParts.{all_counted, all_named, all_sized, all_within, as_many, numbers_sized, own_shaped, own_sharing, parts_are, parts_sound}
+use Rattle.pd_salvage_shapes.proofs.TableLemmas.{all_counted, all_named, all_sized, all_within, as_many, numbers_sized, own_shaped, own_sharing, parts_are, parts_sound}
 use Rattle.pd_salvage_shapes.proofs.shape.shape_of.Goals as goal
 
 pub count_all-requires : goal.count_all-requires

@@ -1,14 +1,14 @@
 use Rattle.std.proofs.Common.{ℕ, [], None, Some, IfSome, sym, subst, ◌∙◌, refl}
 use Rattle.std.proofs.lemmas.Bool.{not-false, not-true}
 use Rattle.std.proofs.lemmas.List.{append-nil}
-use Rattle.pd_image.proofs.ReadLemmas.{only_reads_both}
-use Rattle.pd_kinds.specs.Edge.{is_outside}
+use Rattle.pd_image.proofs.CrashLemmas.{only_reads_both}
+use Rattle.pd_kinds.specs.Graph.{is_outside}
 use Rattle.pd_value.specs.declared.thin.Root.{Root}
-use Rattle.pd_tree.specs.Items.{root_of}
-use Rattle.pd_tree.specs.Next.{IsNext}
+use Rattle.pd_tree.specs.Cursor.{root_of}
+use Rattle.pd_tree.specs.Stack.{IsNext}
 use Rattle.pd_salvage.specs.Cursor.{saved_left}
 use Rattle.pd_salvage_shapes.specs.Tops.{AddsTop}
-use Rattle.pd_salvage_shapes.proofs.TopLemmas.{added_lawful, added_told, left_lawful, left_told, tops_begun, tops_ended}
+use Rattle.pd_salvage_shapes.proofs.SeenLemmas.{added_lawful, added_told, left_lawful, left_told, tops_begun, tops_ended}
 use Rattle.pd_salvage_shapes.proofs.VisitLemmas.{any_if}
 use Rattle.pd_salvage_shapes.proofs.tops.read_tops.Goals as goal
 

@@ -1,9 +1,9 @@
 use Rattle.std.proofs.Common.{◌≡◌, ◌++◌, Some, get_or, take, refl, ap, sym, ◌∙◌, arith}
 use Rattle.std.specs.List.{slice_get}
 use Rattle.std.proofs.lemmas.Option.{slice_get-get_or}
-use Rattle.pd_salvage_shapes.specs.Uses.{leaves_of}
+use Rattle.pd_salvage_shapes.specs.SeenShape.{leaves_of}
 use Rattle.pd_salvage_shapes.specs.Visiting.{mets_of}
-use Rattle.pd_salvage_shapes.proofs.UseLemmas.{note_uses}
+use Rattle.pd_salvage_shapes.proofs.LeafTable.{note_uses}
 use Rattle.pd_salvage_shapes.proofs.uses.count_device.Goals as goal
 
 pub loop-k-preserved : goal.loop-k-preserved

@@ -1,5 +1,5 @@
 use Rattle.std.proofs.Common.{◌≡◌, ℕ, List, ◌++◌, length, take}
-use Rattle.pd_salvage_shapes.specs.Uses.{AreUses, leaves_of}
+use Rattle.pd_salvage_shapes.specs.SeenShape.{AreUses, leaves_of}
 use Rattle.pd_salvage_shapes.specs.Visiting.{mets_of}
 use Rattle.pd_salvage_shapes.proofs.uses.count_device.Given as goal
 

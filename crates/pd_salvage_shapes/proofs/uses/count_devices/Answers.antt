@@ -1,6 +1,6 @@
 use Rattle.std.proofs.Common.{take, ◌∙◌, arith}
-use Rattle.pd_salvage_shapes.specs.Uses.{all_mets, leaves_of}
-use Rattle.pd_salvage_shapes.proofs.UseLemmas.{device_uses}
+use Rattle.pd_salvage_shapes.specs.SeenShape.{all_mets, leaves_of}
+use Rattle.pd_salvage_shapes.proofs.LeafTable.{device_uses}
 use Rattle.pd_salvage_shapes.proofs.uses.count_devices.Goals as goal
 
 pub loop-device-preserved : goal.loop-device-preserved

@@ -1,5 +1,5 @@
 use Rattle.std.proofs.Common.{◌≡◌, length, take}
-use Rattle.pd_salvage_shapes.specs.Uses.{AreUses, all_mets, leaves_of}
+use Rattle.pd_salvage_shapes.specs.SeenShape.{AreUses, all_mets, leaves_of}
 use Rattle.pd_salvage_shapes.proofs.uses.count_devices.Given as goal
 
 -- what the devices before this one met was counted

@@ -1,4 +1,4 @@
-use Rattle.pd_salvage_shapes.proofs.UseLemmas.{note_leaves}
+use Rattle.pd_salvage_shapes.proofs.LeafTable.{note_leaves}
 use Rattle.pd_salvage_shapes.proofs.uses.count_note.Goals as goal
 
 pub returns-clause-counted : goal.returns-clause-counted

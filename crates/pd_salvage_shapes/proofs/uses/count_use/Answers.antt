@@ -1,4 +1,4 @@
-use Rattle.pd_salvage_shapes.proofs.UseLemmas.{more_uses}
+use Rattle.pd_salvage_shapes.proofs.LeafTable.{more_uses}
 use Rattle.pd_salvage_shapes.proofs.uses.count_use.Goals as goal
 
 pub returns-clause-counted : goal.returns-clause-counted

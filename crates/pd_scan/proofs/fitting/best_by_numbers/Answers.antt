@@ -3,7 +3,7 @@ use Rattle.std.proofs.lemmas.Option.{IfSome_then}
 use Rattle.pd_graph.specs.Notes.{size_of}
 use Rattle.pd_laid.specs.FoundRoots.{are_fitting, lost_graph}
 use Rattle.pd_scan.specs.Pairs.{IsBestOf, may_fit, pair_of_trees}
-use Rattle.pd_scan.specs.Roots.{found_of}
+use Rattle.pd_scan.specs.Pairs.{found_of}
 use Rattle.pd_scan.proofs.NumberLemmas.{best_alike, best_inside}
 use Rattle.pd_scan.proofs.fitting.best_by_numbers.Goals as goal
 

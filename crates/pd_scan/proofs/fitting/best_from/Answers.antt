@@ -3,7 +3,7 @@ use Rattle.std.proofs.lemmas.Option.{IfSome_then}
 use Rattle.pd_graph.specs.Notes.{size_of}
 use Rattle.pd_laid.specs.FoundRoots.{are_fitting, lost_graph}
 use Rattle.pd_scan.specs.Pairs.{may_fit, pair_of_trees}
-use Rattle.pd_scan.specs.Roots.{roots_of}
+use Rattle.pd_scan.specs.Pairs.{roots_of}
 use Rattle.pd_scan.proofs.PairLemmas.{best_of_fewer, fitting_inside}
 use Rattle.pd_scan.proofs.fitting.best_from.Goals as goal
 

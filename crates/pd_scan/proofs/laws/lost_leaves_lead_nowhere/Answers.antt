@@ -1,4 +1,4 @@
-use Rattle.pd_scan.proofs.LeafLemmas.{leads_nowhere}
+use Rattle.pd_scan.proofs.LostLemmas.{leads_nowhere}
 use Rattle.pd_scan.proofs.laws.lost_leaves_lead_nowhere.Goals as goal
 
 pub returns : goal.returns

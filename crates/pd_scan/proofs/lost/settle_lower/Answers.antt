@@ -1,5 +1,5 @@
 use Rattle.std.proofs.Common.{◌<◌, inl, inr, IfSome, refl, ◌∙◌, subst, arith}
-use Rattle.pd_graph.proofs.AnyLemmas.{if_both}
+use Rattle.pd_kinds.proofs.ResultLemmas.{if_both}
 use Rattle.pd_settle.specs.Settled.{is_fit, AreFit, AreSettledIn}
 use Rattle.pd_scan.proofs.LostLemmas.{pool_shares, devices_role, details_role, settled_trees, judged_fit, judged_root}
 use Rattle.pd_scan.proofs.lost.settle_lower.Goals as goal

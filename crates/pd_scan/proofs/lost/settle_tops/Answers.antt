@@ -1,8 +1,8 @@
 use Rattle.std.proofs.Common.{◌<◌, IfSome, ◌∙◌, subst, arith}
 use Rattle.pd_kinds.specs.Graph.{block_at}
-use Rattle.pd_graph.proofs.AnyLemmas.{if_both}
+use Rattle.pd_kinds.proofs.ResultLemmas.{if_both}
 use Rattle.pd_settle.specs.Settled.{is_fit, AreFit, AreSettledIn}
-use Rattle.pd_scan.specs.Tops.{keeps_roots}
+use Rattle.pd_scan.specs.Partners.{keeps_roots}
 use Rattle.pd_scan.proofs.LostLemmas.{tops_role, settled_trees, top_root, top_fit}
 use Rattle.pd_scan.proofs.lost.settle_tops.Goals as goal
 

@@ -1,6 +1,6 @@
 use Rattle.std.proofs.Common.{ℕ, ◌+◌, IfSome, ◌∙◌, subst}
-use Rattle.pd_image.proofs.ReadLemmas.{only_reads_both}
-use Rattle.pd_graph.proofs.AnyLemmas.{if_both}
+use Rattle.pd_kinds.proofs.ResultLemmas.{if_both}
+use Rattle.pd_image.proofs.CrashLemmas.{only_reads_both}
 use Rattle.pd_laid.specs.FoundRoots.{lost_graph}
 use Rattle.pd_scan.specs.Numbers.{AreNumbered, AreTold}
 use Rattle.pd_scan.proofs.NumberLemmas.{details_twice, told_by_details}

@@ -1,9 +1,9 @@
 use Rattle.std.proofs.Common.{cond, nat_eq, sym, ◌∙◌, ap}
 use Rattle.std.proofs.lemmas.Option.{IfSome_then}
-use Rattle.pd_graph.proofs.AnyLemmas.{if_any}
+use Rattle.pd_kinds.proofs.ResultLemmas.{if_any}
 use Rattle.pd_laid.specs.FoundRoots.{lost_graph}
-use Rattle.pd_measures.specs.declared.measured.Measured.{Measured}
-use Rattle.pd_measures.specs.Measures.{measure_at}
+use Rattle.pd_measures.specs.declared.measures.Measured.{Measured}
+use Rattle.pd_measures.specs.Measured.{measure_at}
 use Rattle.pd_scan.specs.Numbers.{with_number}
 use Rattle.pd_scan.proofs.FitLemmas.{root_good}
 use Rattle.pd_scan.proofs.NumberLemmas.{details_numbered, details_passed, unsound}

@@ -1,7 +1,7 @@
 use Rattle.std.proofs.Common.{◌≡◌, ℕ, IfSome, ap, ◌∙◌, subst}
 use Rattle.std.proofs.lemmas.Result.{on_ok_weaker}
+use Rattle.pd_kinds.proofs.ResultLemmas.{if_both}
 use Rattle.pd_graph.specs.Notes.{size_of}
-use Rattle.pd_graph.proofs.AnyLemmas.{if_both}
 use Rattle.pd_laid.specs.FoundRoots.{lost_graph}
 use Rattle.pd_scan.specs.declared.trees.LostTrees.{LostTrees}
 use Rattle.pd_scan.specs.Numbers.{AreTold, AreTopsNumbered}

@@ -2,11 +2,11 @@ use Rattle.std.proofs.Common.{◌≡◌, cond, nat_eq, sym, ◌∙◌, ap, ap₂
 use Rattle.std.specs.BTreeMap.{get}
 use Rattle.std.specs.Option.{unwrap_or}
 use Rattle.std.proofs.lemmas.Option.{IfSome_then}
+use Rattle.pd_kinds.proofs.ResultLemmas.{if_any}
 use Rattle.pd_graph.specs.Notes.{size_of}
-use Rattle.pd_graph.proofs.AnyLemmas.{if_any}
 use Rattle.pd_laid.specs.FoundRoots.{lost_graph}
-use Rattle.pd_measures.specs.declared.measured.Measured.{Measured}
-use Rattle.pd_measures.specs.Measures.{measure_at}
+use Rattle.pd_measures.specs.declared.measures.Measured.{Measured}
+use Rattle.pd_measures.specs.Measured.{measure_at}
 use Rattle.pd_measures.proofs.SoundLemmas.{root_inside}
 use Rattle.pd_scan.specs.Numbers.{list_cmp, with_number}
 use Rattle.pd_scan.proofs.FitLemmas.{root_good}

@@ -1,6 +1,6 @@
 use Rattle.std.proofs.Common.{cond, Some, sym, ◌∙◌, ap}
 use Rattle.std.specs.BTreeMap.{get}
-use Rattle.pd_measures.specs.declared.measured.Measured.{Measured}
+use Rattle.pd_measures.specs.declared.measures.Measured.{Measured}
 use Rattle.pd_scan.specs.Partners.{has_sum, partner_of, sum_cmp, with_one}
 use Rattle.pd_scan.proofs.PartnerLemmas.{put_none, put_one}
 use Rattle.pd_scan.proofs.partners.put_sound.Goals as goal

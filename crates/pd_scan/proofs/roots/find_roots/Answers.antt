@@ -2,9 +2,9 @@ use Rattle.std.proofs.Common.{ℕ, min, IfOk, IfSome, sym, ◌∙◌, ap, subst,
 use Rattle.std.proofs.lemmas.Option.{IfSome_then}
 use Rattle.std.proofs.lemmas.Result.{IfOk-weaker}
 use Rattle.pd_kinds.specs.declared.limits.TheConstants.{MAX_META_BLOCKS}
-use Rattle.pd_graph.proofs.AnyLemmas.{if_both}
-use Rattle.pd_scan.specs.Roots.{AreInside}
-use Rattle.pd_scan.proofs.RootLemmas.{lost_is, none_found, nr_of, pool_of}
+use Rattle.pd_kinds.proofs.ResultLemmas.{if_both}
+use Rattle.pd_scan.specs.Pairs.{AreInside}
+use Rattle.pd_scan.proofs.FitLemmas.{lost_is, none_found, nr_of, pool_of}
 use Rattle.pd_scan.proofs.roots.find_roots.Goals as goal
 
 pub returns-then-nr-eq0-clause-found : goal.returns-then-nr-eq0-clause-found

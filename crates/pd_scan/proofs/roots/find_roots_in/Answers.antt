@@ -1,12 +1,12 @@
 use Rattle.std.proofs.Common.{◌≡◌, ℕ, IfOk, IfSome, sym, ◌∙◌, ap, subst}
 use Rattle.std.proofs.lemmas.Result.{IfOk-weaker}
 use Rattle.pd_kinds.specs.Graph.{Graph}
+use Rattle.pd_kinds.proofs.ResultLemmas.{if_both}
 use Rattle.pd_graph.specs.Notes.{size_of}
-use Rattle.pd_graph.proofs.AnyLemmas.{if_both}
 use Rattle.pd_laid.specs.FoundRoots.{IsFound, lost_graph}
-use Rattle.pd_scan.specs.Roots.{AreInside, found_of}
-use Rattle.pd_scan.specs.Trees.{AreLostTrees}
-use Rattle.pd_scan.proofs.RootLemmas.{places_by}
+use Rattle.pd_scan.specs.Pairs.{AreInside, found_of}
+use Rattle.pd_scan.specs.Lost.{AreLostTrees}
+use Rattle.pd_scan.proofs.FitLemmas.{places_by}
 use Rattle.pd_scan.proofs.roots.find_roots_in.Goals as goal
 
 pub choose-requires-clause-places : goal.choose-requires-clause-places

@@ -3,12 +3,12 @@ use Rattle.std.specs.List.{AllByRecursion}
 use Rattle.std.proofs.lemmas.Option.{IfSome_then}
 use Rattle.std.proofs.lemmas.Result.{IfOk-weaker}
 use Rattle.pd_kinds.specs.declared.limits.TheConstants.{MAX_META_BLOCKS}
-use Rattle.pd_graph.proofs.AnyLemmas.{if_any, if_both}
+use Rattle.pd_kinds.proofs.ResultLemmas.{if_any, if_both}
 use Rattle.pd_laid.specs.FoundRoots.{lost_graph}
 use Rattle.pd_scan.specs.declared.states.State.{State}
-use Rattle.pd_scan.specs.Roots.{AreInside}
-use Rattle.pd_scan.specs.States.{HasDevices, state_roots}
-use Rattle.pd_scan.proofs.RootLemmas.{lost_is, no_blocks, nr_of, pool_of}
+use Rattle.pd_scan.specs.Pairs.{AreInside}
+use Rattle.pd_scan.specs.Pairs.{HasDevices, state_roots}
+use Rattle.pd_scan.proofs.FitLemmas.{lost_is, no_blocks, nr_of, pool_of}
 use Rattle.pd_scan.proofs.StateLemmas.{no_states}
 use Rattle.pd_scan.proofs.states.find_states.Goals as goal
 

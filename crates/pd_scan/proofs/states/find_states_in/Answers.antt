@@ -2,14 +2,14 @@ use Rattle.std.proofs.Common.{ℕ, IfOk, IfSome, sym, ◌∙◌, ap, subst}
 use Rattle.std.specs.List.{AllByRecursion}
 use Rattle.std.proofs.lemmas.Result.{IfOk-weaker}
 use Rattle.pd_kinds.specs.Graph.{Graph}
-use Rattle.pd_graph.proofs.AnyLemmas.{if_both}
+use Rattle.pd_kinds.proofs.ResultLemmas.{if_both}
 use Rattle.pd_laid.specs.FoundRoots.{lost_graph}
 use Rattle.pd_scan.specs.declared.states.State.{State}
 use Rattle.pd_scan.specs.Pairs.{AreTreesOf}
-use Rattle.pd_scan.specs.Roots.{AreInside}
-use Rattle.pd_scan.specs.States.{AreFoundStates}
-use Rattle.pd_scan.specs.Trees.{AreLostTrees}
-use Rattle.pd_scan.proofs.RootLemmas.{places_by}
+use Rattle.pd_scan.specs.Pairs.{AreInside}
+use Rattle.pd_scan.specs.Pairs.{AreFoundStates}
+use Rattle.pd_scan.specs.Lost.{AreLostTrees}
+use Rattle.pd_scan.proofs.FitLemmas.{places_by}
 use Rattle.pd_scan.proofs.states.find_states_in.Goals as goal
 
 pub choose_states-requires-clause-places : goal.choose_states-requires-clause-places

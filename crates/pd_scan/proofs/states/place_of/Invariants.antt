@@ -1,5 +1,5 @@
 use Rattle.std.proofs.Common.{◌≡◌, ◌+◌}
-use Rattle.pd_scan.specs.States.{place_among}
+use Rattle.pd_scan.specs.Pairs.{place_among}
 use Rattle.std.proofs.Common.{drop}
 use Rattle.pd_scan.proofs.states.place_of.Given as goal
 

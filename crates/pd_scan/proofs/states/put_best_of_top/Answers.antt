@@ -1,7 +1,7 @@
 use Rattle.std.proofs.Common.{◌∷◌, sym, ap, subst}
 use Rattle.std.proofs.lemmas.Result.{on_ok_weaker}
 use Rattle.pd_graph.specs.declared.notes.Note.{Note}
-use Rattle.pd_scan.specs.States.{AreStatesOf}
+use Rattle.pd_scan.specs.Pairs.{AreStatesOf}
 use Rattle.pd_scan.proofs.StateLemmas.{no_state, one_state}
 use Rattle.pd_scan.proofs.states.put_best_of_top.Goals as goal
 

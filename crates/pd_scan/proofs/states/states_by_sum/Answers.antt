@@ -1,6 +1,6 @@
 use Rattle.std.proofs.Common.{ℕ, ◌-◌, List, sym, subst}
 use Rattle.std.specs.List.{range_with_len}
-use Rattle.pd_scan.specs.States.{AreStatesOf}
+use Rattle.pd_scan.specs.Pairs.{AreStatesOf}
 use Rattle.pd_scan.proofs.StateLemmas.{one_more}
 use Rattle.pd_scan.proofs.states.states_by_sum.Goals as goal
 

@@ -1,6 +1,6 @@
 use Rattle.std.proofs.Common.{◌-◌}
 use Rattle.std.specs.List.{range_with_len}
-use Rattle.pd_scan.specs.States.{AreStatesOf}
+use Rattle.pd_scan.specs.Pairs.{AreStatesOf}
 use Rattle.pd_scan.proofs.states.states_by_sum.Given as goal
 
 -- the states of the mapping trees that were passed, from the last one down

@@ -3,10 +3,10 @@ use Rattle.std.specs.List.{slice_get}
 use Rattle.std.specs.Option.{option_map}
 use Rattle.std.proofs.lemmas.List.Folds.{list_all_at}
 use Rattle.std.proofs.lemmas.Option.{slice_get-map, get_or_from_slice_get, slice_get_within}
-use Rattle.pd_kinds.specs.Edge.{Edge}
+use Rattle.pd_kinds.specs.Graph.{Edge}
 use Rattle.pd_settle.specs.Looking.{blocks_of_edges}
 use Rattle.pd_settle.proofs.LookLemmas.{all_more}
-use Rattle.pd_scan.specs.Tops.{is_noted_good}
+use Rattle.pd_scan.specs.Partners.{is_noted_good}
 use Rattle.pd_scan.proofs.tops.are_named_good.Goals as goal
 
 pub loop-i-preserved : goal.loop-i-preserved

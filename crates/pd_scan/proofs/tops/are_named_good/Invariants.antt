@@ -1,7 +1,7 @@
 use Rattle.std.proofs.Common.{◌≡◌, true, take}
 use Rattle.std.specs.List.{list_all}
 use Rattle.pd_settle.specs.Looking.{blocks_of_edges}
-use Rattle.pd_scan.specs.Tops.{is_noted_good}
+use Rattle.pd_scan.specs.Partners.{is_noted_good}
 use Rattle.pd_scan.proofs.tops.are_named_good.Given as goal
 
 abbrev pub invariant-loop-i : goal.invariant-loop-i

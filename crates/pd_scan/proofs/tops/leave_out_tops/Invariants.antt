@@ -2,7 +2,7 @@ use Rattle.std.proofs.Common.{◌≡◌, ℕ, ◌+◌, ◌≤◌, ◌&&◌, ◌|
 use Rattle.pd_kinds.specs.Graph.{block_at}
 use Rattle.pd_image.specs.Device.{OnlyReads}
 use Rattle.pd_settle.specs.Settled.{is_fit}
-use Rattle.pd_scan.specs.Tops.{keeps_roots}
+use Rattle.pd_scan.specs.Partners.{keeps_roots}
 use Rattle.pd_scan.proofs.tops.leave_out_tops.Given as goal
 
 abbrev pub invariant-loop-b : goal.invariant-loop-b

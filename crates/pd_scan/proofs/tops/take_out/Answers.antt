@@ -1,6 +1,6 @@
 use Rattle.std.proofs.Common.{nat_eq}
 use Rattle.pd_settle.specs.Settled.{is_fit}
-use Rattle.pd_scan.proofs.TopLemmas.{all_kept, taken_out}
+use Rattle.pd_scan.proofs.JudgeLemmas.{all_kept, taken_out}
 use Rattle.pd_scan.proofs.tops.take_out.Goals as goal
 
 pub returns-then-not-keeps-clause-fits : goal.returns-then-not-keeps-clause-fits

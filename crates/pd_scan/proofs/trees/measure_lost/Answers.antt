@@ -1,8 +1,8 @@
 use Rattle.std.proofs.Common.{sym, subst}
-use Rattle.pd_graph.proofs.AnyLemmas.{if_both}
-use Rattle.pd_scan.specs.Trees.{AreLostTrees}
+use Rattle.pd_kinds.proofs.ResultLemmas.{if_both}
+use Rattle.pd_scan.specs.Lost.{AreLostTrees}
 use Rattle.pd_scan.proofs.LostLemmas.{tops_role}
-use Rattle.pd_scan.proofs.TreesLemmas.{lost_trees_are}
+use Rattle.pd_scan.proofs.BelowLemmas.{lost_trees_are}
 use Rattle.pd_scan.proofs.trees.measure_lost.Goals as goal
 
 pub returns-clause-trees : goal.returns-clause-trees

@@ -1,12 +1,12 @@
 use Rattle.std.proofs.Common.{◌≡◌, ◌-◌, [], ◌∷◌, Some, IfSome, refl, ◌∙◌, subst, arith}
 use Rattle.std.specs.List.{slice_get}
-use Rattle.pd_image.proofs.ReadLemmas.{only_reads_both}
-use Rattle.pd_graph.proofs.AnyLemmas.{if_both, if_any}
+use Rattle.pd_kinds.proofs.ResultLemmas.{if_any, if_both}
+use Rattle.pd_image.proofs.CrashLemmas.{only_reads_both}
 use Rattle.pd_graph.specs.Notes.{note_in}
-use Rattle.pd_settle.specs.Kept.{IsKept}
+use Rattle.pd_settle.specs.Looking.{IsKept}
 use Rattle.pd_settle.specs.Looking.{blocks_of_edges}
 use Rattle.pd_settle.proofs.DescentLemmas.{descends_start, top_block, descends_end, one_step}
-use Rattle.pd_settle.proofs.StepLemmas.{steps_opened, steps_one, steps_most}
+use Rattle.pd_settle.proofs.LookLemmas.{steps_opened, steps_one, steps_most}
 use Rattle.pd_settle.proofs.descending.descend.Goals as goal
 
 pub loop-top-init : goal.loop-top-init

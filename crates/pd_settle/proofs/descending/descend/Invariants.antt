@@ -1,8 +1,8 @@
 use Rattle.std.proofs.Common.{◌≡◌, ℕ, ◌+◌, ◌-◌, ◌*◌, ◌≤◌, List, IfSome}
 use Rattle.pd_image.specs.Device.{OnlyReads}
 use Rattle.pd_graph.specs.Notes.{note_in}
-use Rattle.pd_settle.specs.Kept.{IsKept}
-use Rattle.pd_settle.specs.Ordering.{steps}
+use Rattle.pd_settle.specs.Looking.{IsKept}
+use Rattle.pd_settle.specs.Settled.{steps}
 use Rattle.pd_settle.proofs.DescentLemmas.{Descending}
 use Rattle.pd_settle.proofs.descending.descend.Given as goal
 

@@ -1,7 +1,7 @@
 use Rattle.std.proofs.Common.{Bool, ◌&&◌, not, cond, nat_eq, ◌∙◌, ap}
 use Rattle.pd_graph.specs.Notes.{note_in}
 use Rattle.pd_settle.specs.Settled.{is_fit}
-use Rattle.pd_settle.specs.Stepping.{bad_note}
+use Rattle.pd_settle.specs.Looking.{bad_note}
 use Rattle.pd_settle.proofs.RoleLemmas.{ruled_more}
 use Rattle.pd_settle.proofs.in_role.rule_out_each.Goals as goal
 

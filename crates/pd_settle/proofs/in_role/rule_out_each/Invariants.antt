@@ -1,7 +1,7 @@
 use Rattle.std.proofs.Common.{◌≡◌, ℕ, ◌&&◌, not, cond, nat_lt}
 use Rattle.pd_graph.specs.Notes.{size_of, note_in}
 use Rattle.pd_settle.specs.Settled.{is_fit}
-use Rattle.pd_settle.specs.Stepping.{bad_note}
+use Rattle.pd_settle.specs.Looking.{bad_note}
 use Rattle.pd_settle.proofs.in_role.rule_out_each.Given as goal
 
 abbrev pub invariant-loop-b : goal.invariant-loop-b

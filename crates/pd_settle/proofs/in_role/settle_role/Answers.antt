@@ -1,15 +1,15 @@
 use Rattle.std.proofs.Common.{◌≡◌, ℕ, ◌<◌, Bool, true, [], ◌&&◌, not, cond, nat_lt, IfSome, refl, ◌∙◌, ap, subst, arith}
 use Rattle.std.proofs.lemmas.Option.{IfSome_then}
-use Rattle.pd_image.proofs.ReadLemmas.{only_reads_both}
+use Rattle.pd_image.proofs.CrashLemmas.{only_reads_both}
 use Rattle.pd_kinds.specs.Graph.{pair}
+use Rattle.pd_kinds.proofs.ResultLemmas.{if_any, if_both}
 use Rattle.pd_graph.specs.declared.notes.Note.{Note}
 use Rattle.pd_graph.specs.Notes.{no_note, note_in}
-use Rattle.pd_graph.proofs.AnyLemmas.{if_both, if_any}
-use Rattle.pd_settle.specs.Good.{AreSettleable}
-use Rattle.pd_settle.specs.Ordering.{IsOrdering}
+use Rattle.pd_settle.specs.Settled.{AreSettleable}
+use Rattle.pd_settle.specs.Settled.{IsOrdering}
 use Rattle.pd_settle.specs.Settled.{is_fit}
-use Rattle.pd_settle.specs.Stepping.{bad_note}
-use Rattle.pd_settle.proofs.StepLemmas.{steps_most}
+use Rattle.pd_settle.specs.Looking.{bad_note}
+use Rattle.pd_settle.proofs.LookLemmas.{steps_most}
 use Rattle.pd_settle.proofs.RoleLemmas.{is_in_role, in_role, role_settleable, first_ordering, first_closed, settled_in_role, done_one}
 use Rattle.pd_settle.proofs.in_role.settle_role.Goals as goal
 

@@ -1,7 +1,7 @@
 use Rattle.std.proofs.Common.{◌≡◌, ℕ, ◌+◌, ◌<◌, ◌≤◌, true, IfSome}
 use Rattle.pd_image.specs.Device.{OnlyReads}
 use Rattle.pd_graph.specs.Notes.{size_of, note_in}
-use Rattle.pd_settle.specs.Ordering.{IsOrdering, IsClosed, steps}
+use Rattle.pd_settle.specs.Settled.{IsOrdering, IsClosed, steps}
 use Rattle.pd_settle.specs.Settled.{is_fit, AreFit}
 use Rattle.pd_settle.proofs.RoleLemmas.{is_in_role}
 use Rattle.pd_settle.proofs.in_role.settle_role.Given as goal

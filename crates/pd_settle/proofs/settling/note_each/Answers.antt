@@ -1,12 +1,12 @@
 use Rattle.std.proofs.Common.{true, false, IfSome, refl, ◌∙◌, subst, arith}
-use Rattle.pd_image.proofs.ReadLemmas.{only_reads_both}
+use Rattle.pd_image.proofs.CrashLemmas.{only_reads_both}
 use Rattle.pd_graph.specs.Audit.{note_at}
-use Rattle.pd_graph.proofs.AnyLemmas.{if_both, if_any}
 use Rattle.std.proofs.lemmas.Option.{IfSome_then}
-use Rattle.pd_settle.specs.Good.{AreSettleable}
-use Rattle.pd_settle.specs.Ordering.{is_node, IsOrdering, HasRoles}
-use Rattle.pd_settle.proofs.CleanLemmas.{clean_of, settleable_of}
-use Rattle.pd_settle.proofs.FirstLemmas.{closed_low, noted_ordering, inner_steps}
+use Rattle.pd_kinds.proofs.ResultLemmas.{if_any, if_both}
+use Rattle.pd_settle.specs.Settled.{AreSettleable}
+use Rattle.pd_settle.specs.Settled.{is_node, IsOrdering, HasRoles}
+use Rattle.pd_settle.proofs.NodeLemmas.{clean_of, settleable_of}
+use Rattle.pd_settle.proofs.RoleLemmas.{closed_low, noted_ordering, inner_steps}
 use Rattle.pd_settle.proofs.SettledLemmas.{all_settled, done_from, done_more, roles_kept, marks_both}
 use Rattle.pd_settle.proofs.settling.note_each.Goals as goal
 

@@ -1,9 +1,9 @@
 use Rattle.std.proofs.Common.{◌≡◌, ℕ, ◌+◌, ◌<◌, ◌≤◌, true, false, IfSome}
 use Rattle.pd_image.specs.Device.{OnlyReads}
-use Rattle.pd_graph.specs.Roles.{has_bit}
+use Rattle.pd_graph.specs.Marks.{has_bit}
 use Rattle.pd_graph.specs.Audit.{note_at, roles_at, KeepsButNotes}
 use Rattle.pd_graph.specs.Walk.{IsWalked, HasNotedLeaves}
-use Rattle.pd_settle.specs.Ordering.{is_node, IsOrdering, IsClosed, steps}
+use Rattle.pd_settle.specs.Settled.{is_node, IsOrdering, IsClosed, steps}
 use Rattle.pd_settle.proofs.settling.note_each.Given as goal
 
 abbrev pub invariant-loop-b : goal.invariant-loop-b

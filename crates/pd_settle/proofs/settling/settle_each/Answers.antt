@@ -2,10 +2,10 @@ use Rattle.std.proofs.Common.{Bool, ◌||◌, sym, ◌∙◌, ap, arith}
 use Rattle.std.proofs.lemmas.Option.{IfSome_then}
 use Rattle.pd_graph.specs.declared.notes.Note.{Note}
 use Rattle.pd_graph.specs.Audit.{note_at}
-use Rattle.pd_settle.specs.Ordering.{is_node}
+use Rattle.pd_settle.specs.Settled.{is_node}
 use Rattle.pd_settle.specs.Settled.{noted_rule, breaks}
-use Rattle.pd_settle.proofs.CleanLemmas.{clean_of}
-use Rattle.pd_settle.proofs.FirstLemmas.{leaves_kept}
+use Rattle.pd_settle.proofs.NodeLemmas.{clean_of}
+use Rattle.pd_settle.proofs.RoleLemmas.{leaves_kept}
 use Rattle.pd_settle.proofs.SettledLemmas.{settled_kept, settled_of}
 use Rattle.pd_settle.proofs.settling.settle_each.Goals as goal
 

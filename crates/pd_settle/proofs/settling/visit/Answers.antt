@@ -3,7 +3,7 @@ use Rattle.std.proofs.lemmas.Bool.{and_from}
 use Rattle.std.proofs.lemmas.Option.{IfSome_then}
 use Rattle.pd_kinds.specs.Graph.{pair, role_of, is_reached}
 use Rattle.pd_graph.proofs.BitLemmas.{pair_role}
-use Rattle.pd_settle.specs.Ordering.{is_node}
+use Rattle.pd_settle.specs.Settled.{is_node}
 use Rattle.pd_settle.proofs.settling.visit.Goals as goal
 
 pub returns-in-Some-clause-told : goal.returns-in-Some-clause-told

@@ -1,8 +1,8 @@
 use Rattle.std.proofs.Common.{ℕ, List, ap, refl}
+use Rattle.pd_kinds.proofs.ResultLemmas.{if_maps}
 use Rattle.pd_value.specs.declared.space_map.IndexEntry.{IndexEntry}
 use Rattle.pd_tree.specs.Cursor.{cursor_items}
-use Rattle.pd_smap.specs.Entries.{index_from, place_in}
-use Rattle.pd_smap.proofs.OverflowLeftLemmas.{if_maps}
+use Rattle.pd_smap.specs.Overflow.{index_from, place_in}
 use Rattle.pd_shrink.proofs.SearchLemmas.{all_found, first_found}
 use Rattle.pd_shrink.proofs.free.find_free.Goals as goal
 

@@ -1,21 +1,16 @@
 use Rattle.std.proofs.Common.{◌≡◌, ◌∙◌, ℕ, ◌+◌, ◌-◌, ◌*◌, ◌<◌, min, List, length, IfSome, ap, arith, subst, sym}
 use Rattle.pd_kinds.specs.Bitmap.{bitmaps_for}
-use Rattle.pd_image.proofs.ReadLemmas.{only_reads_both}
+use Rattle.pd_kinds.proofs.NumberLemmas.{add_next, add_none}
+use Rattle.pd_kinds.proofs.ResultLemmas.{if_all, if_maps, if_then}
+use Rattle.pd_image.proofs.CrashLemmas.{only_reads_both}
 use Rattle.pd_tree.specs.Cursor.{cursor_items, cursor_nodes}
-use Rattle.pd_smap.specs.Entries.{index_from, place_in}
+use Rattle.pd_smap.specs.Overflow.{index_from, place_in}
 use Rattle.pd_smap.specs.Overflow.{overflow_items, overflow_reads}
 use Rattle.pd_smap.specs.Steps.{bits_by}
-use Rattle.pd_smap.proofs.OverflowLeftLemmas.{if_maps, if_then}
-use Rattle.pd_smap.proofs.StepLemmas.{if_all, still_attached}
+use Rattle.pd_smap.proofs.StepLemmas.{still_attached}
 use Rattle.pd_shrink.specs.Gathered.{standing, with_reads}
 use Rattle.pd_shrink.proofs.SearchLemmas.{map_searched, searched_many, searched_next, searched_nowhere, searched_reading, searched_reads}
 use Rattle.pd_shrink.proofs.free.gather.Goals as goal
-
-add_none : (i : ℕ) → i ≡ i + 0
-add_none i = omega arith
-
-add_next : (i j : ℕ) → i + 1 + j ≡ i + (j + 1)
-add_next i j = omega arith
 
 pub loop-i-init : goal.loop-i-init
 loop-i-init g c =

@@ -1,7 +1,7 @@
 use Rattle.std.proofs.Common.{◌≡◌, ℕ, ◌+◌, ◌-◌, ◌*◌, min, length, IfSome}
 use Rattle.pd_kinds.specs.Bitmap.{bitmaps_for}
 use Rattle.pd_tree.specs.Cursor.{cursor_items, cursor_nodes}
-use Rattle.pd_smap.specs.Entries.{index_from, place_in}
+use Rattle.pd_smap.specs.Overflow.{index_from, place_in}
 use Rattle.pd_smap.specs.Steps.{bits_by}
 use Rattle.pd_shrink.specs.Gathered.{Searched, standing, with_reads}
 use Rattle.pd_shrink.proofs.free.gather.Given as goal

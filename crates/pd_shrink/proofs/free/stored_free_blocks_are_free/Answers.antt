@@ -3,8 +3,8 @@ use Rattle.pd_kinds.specs.declared.kind.Kind.TheVariants.{Thin}
 use Rattle.pd_kinds.specs.declared.kind.Stage.TheVariants.{Counts}
 use Rattle.pd_kinds.specs.Graph.{block_at}
 use Rattle.pd_kinds.specs.ThinFormat.{thin_graph}
-use Rattle.pd_kinds.specs.ThinSuper.{thin_fields}
-use Rattle.pd_shrink.proofs.FreeLemmas.{free_same, index_keys}
+use Rattle.pd_kinds.specs.ThinFormat.{thin_fields}
+use Rattle.pd_shrink.proofs.GatherLemmas.{free_same, index_keys}
 use Rattle.pd_shrink.proofs.free.stored_free_blocks_are_free.Goals as goal
 
 pub returns-clause-index : goal.returns-clause-index

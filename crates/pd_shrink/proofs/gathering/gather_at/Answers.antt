@@ -1,7 +1,7 @@
 use Rattle.std.proofs.Common.{◌-◌, ◌*◌, min, arith}
 use Rattle.pd_smap.specs.Overflow.{overflow_items, overflow_reads}
 use Rattle.pd_smap.specs.Steps.{bits_at, bits_from}
-use Rattle.pd_smap.proofs.BitmapLemmas.{same_bits}
+use Rattle.pd_smap.proofs.CountLemmas.{same_bits}
 use Rattle.pd_smap.proofs.StepLemmas.{ok_maps}
 use Rattle.pd_shrink.proofs.SearchLemmas.{read_then}
 use Rattle.pd_shrink.proofs.gathering.gather_at.Goals as goal

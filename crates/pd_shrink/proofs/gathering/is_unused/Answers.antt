@@ -1,7 +1,6 @@
 use Rattle.std.proofs.Common.{◌∙◌, ap}
-use Rattle.pd_smap.proofs.OverflowLeftLemmas.{if_maps}
-use Rattle.pd_smap.proofs.StepLemmas.{if_all}
-use Rattle.pd_shrink.specs.Unused.{is_zero}
+use Rattle.pd_kinds.proofs.ResultLemmas.{if_all, if_maps}
+use Rattle.pd_shrink.specs.Gathered.{is_zero}
 use Rattle.pd_shrink.proofs.GatherLemmas.{zero_by_bits, zero_by_tree}
 use Rattle.pd_shrink.proofs.gathering.is_unused.Goals as goal
 

@@ -1,5 +1,5 @@
-use Rattle.pd_shapes.specs.ImageShape.{image_shape}
-use Rattle.pd_shapes.specs.SavedShape.{saved_shape_from}
+use Rattle.pd_laid.specs.Shape.{image_shape}
+use Rattle.pd_laid.specs.Salvage.{saved_shape_from}
 use Rattle.pd_salvage.specs.SavedShape.{held_shape}
 use Rattle.pd_shrink.proofs.PlanLemmas.{saved_means}
 use Rattle.pd_shrink.proofs.kept.read_shape.Goals as goal

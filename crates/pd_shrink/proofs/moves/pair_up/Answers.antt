@@ -1,5 +1,5 @@
 use Rattle.std.proofs.Common.{arith}
-use Rattle.pd_shrink.proofs.PairLemmas.{pair_all, pair_more}
+use Rattle.pd_shrink.proofs.MovingLemmas.{pair_all, pair_more}
 use Rattle.pd_shrink.proofs.moves.pair_up.Goals as goal
 
 pub loop-i-preserved : goal.loop-i-preserved

@@ -1,5 +1,5 @@
 use Rattle.std.proofs.Common.{◌≡◌, ◌++◌, drop}
-use Rattle.pd_answers.specs.MovedPool.{moves_to}
+use Rattle.pd_answers.specs.Shrinks.{moves_to}
 use Rattle.pd_shrink.specs.Moves.{moves_in}
 use Rattle.pd_shrink.proofs.moves.pair_up.Given as goal
 

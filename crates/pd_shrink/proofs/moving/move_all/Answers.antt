@@ -1,7 +1,7 @@
 use Rattle.std.proofs.Common.{refl}
-use Rattle.pd_runs.specs.Places.{runs_from}
+use Rattle.pd_meaning_thin.specs.Packed.{runs_from}
 use Rattle.pd_shrink.specs.Moves.{moves_in}
-use Rattle.pd_shrink.proofs.PartLemmas.{parts_next}
+use Rattle.pd_shrink.proofs.MovesLemmas.{parts_next}
 use Rattle.pd_shrink.proofs.moving.move_all.Goals as goal
 
 pub loop-part-preserved : goal.loop-part-preserved

@@ -1,7 +1,7 @@
 use Rattle.std.proofs.Common.{drop}
-use Rattle.pd_runs.specs.Places.{runs_from}
+use Rattle.pd_meaning_thin.specs.Packed.{runs_from}
 use Rattle.pd_shrink.specs.Moves.{moves_in}
-use Rattle.pd_shrink.proofs.PartLemmas.{MovesParts}
+use Rattle.pd_shrink.proofs.MovesLemmas.{MovesParts}
 use Rattle.pd_shrink.proofs.moving.move_all.Given as goal
 
 -- the parts so far were moved

@@ -2,7 +2,7 @@ use Rattle.std.proofs.Common.{ap, ◌∙◌}
 use Rattle.pd_salvage.specs.declared.saved.SavedHead.{SavedHead}
 use Rattle.pd_salvage.specs.Saved.{pool_of}
 use Rattle.pd_shrink.specs.Moves.{moves_in}
-use Rattle.pd_shrink.specs.Moving.{head_to}
+use Rattle.pd_shrink.specs.Moves.{head_to}
 use Rattle.pd_shrink.proofs.MovesLemmas.{after_sound, moves_are_ordered, pool_after, runs_fit}
 use Rattle.pd_shrink.proofs.moving.move_pool.Goals as goal
 

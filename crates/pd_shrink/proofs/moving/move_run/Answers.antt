@@ -1,7 +1,7 @@
 use Rattle.std.proofs.Common.{◌≡◌, ℕ, ◌^◌, subst, arith}
 use Rattle.pd_shrink.specs.Moves.{moves_in}
 use Rattle.pd_shrink.proofs.MovingLemmas.{moved_first, takes_more, takes_none, takes_staying}
-use Rattle.pd_shrink.proofs.PlaceLemmas.{from_lower}
+use Rattle.pd_shrink.proofs.MovingLemmas.{from_lower}
 use Rattle.pd_shrink.proofs.moving.move_run.Goals as goal
 use Rattle.pd_shrink.proofs.moving.move_run.Goals.{then-stays-gt0+in_ok-take, else-stays-gt0}
 use Rattle.pd_salvage.specs.Gather.{Takes}

@@ -1,7 +1,7 @@
 use Rattle.std.proofs.Common.{sym, ◌∙◌, arith}
-use Rattle.pd_runs.specs.Places.{runs_from}
+use Rattle.pd_meaning_thin.specs.Packed.{runs_from}
 use Rattle.pd_shrink.specs.Moves.{moves_in}
-use Rattle.pd_shrink.proofs.MetLemmas.{met_behind, none_behind}
+use Rattle.pd_shrink.proofs.MovingLemmas.{met_behind, none_behind}
 use Rattle.pd_shrink.proofs.MovingLemmas.{takes_met, takes_no_run}
 use Rattle.pd_shrink.proofs.moving.move_runs.Goals as goal
 use Rattle.pd_shrink.proofs.moving.move_runs.Goals.{in-Some+in_ok-move_run, in_default}

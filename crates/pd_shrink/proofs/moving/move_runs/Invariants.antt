@@ -1,6 +1,6 @@
 use Rattle.std.proofs.Common.{◌≡◌, ◌≤◌, map, take, drop}
-use Rattle.pd_answers.specs.MovedPool.{moved_mapping}
-use Rattle.pd_runs.specs.Places.{runs_from}
+use Rattle.pd_answers.specs.Shrinks.{moved_mapping}
+use Rattle.pd_meaning_thin.specs.Packed.{runs_from}
 use Rattle.pd_salvage.specs.Gather.{mappings_of_runs, IsJoining}
 use Rattle.pd_shrink.specs.Moves.{moves_in}
 use Rattle.pd_shrink.proofs.moving.move_runs.Given as goal

@@ -2,7 +2,7 @@ use Rattle.std.proofs.Common.{ap, ◌∙◌}
 use Rattle.pd_salvage.specs.declared.saved.SavedHead.{SavedHead}
 use Rattle.pd_salvage.specs.SavedShape.{held_shape}
 use Rattle.pd_shrink.specs.Moves.{moves_in}
-use Rattle.pd_shrink.specs.Moving.{head_to}
+use Rattle.pd_shrink.specs.Moves.{head_to}
 use Rattle.pd_shrink.proofs.ShapeMoves.{leaf_runs_fit, own_runs_fit, shape_after, shape_moves_ordered, shape_sound}
 use Rattle.pd_shrink.proofs.moving_shapes.move_shape.Goals as goal
 

@@ -1,5 +1,5 @@
 use Rattle.std.proofs.Common.{◌≡◌, ◌≤◌, ◌++◌, max}
-use Rattle.pd_shrink.specs.Spans.{blocks_between}
+use Rattle.pd_shrink.specs.Making.{blocks_between}
 use Rattle.pd_shrink.proofs.sources.add_blocks.Given as goal
 
 abbrev pub invariant-loop-b : goal.invariant-loop-b

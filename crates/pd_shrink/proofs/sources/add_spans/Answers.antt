@@ -1,10 +1,10 @@
 use Rattle.std.proofs.Common.{ℕ, ◌+◌, ◌≤◌, ◌++◌, List, length, take, ap, sym, ◌∙◌, arith, append_assoc, append-nil}
 use Rattle.std.proofs.lemmas.List.{take_all}
-use Rattle.pd_runs.specs.Places.{runs_from}
-use Rattle.pd_thin_meaning.specs.declared.joined.Run.{Run}
-use Rattle.pd_shrink.specs.Spans.{span_between, spans_past}
+use Rattle.pd_meaning_thin.specs.Packed.{runs_from}
+use Rattle.pd_meaning_thin.specs.declared.joined.Run.{Run}
+use Rattle.pd_shrink.specs.Making.{span_between, spans_past}
 use Rattle.pd_shrink.specs.declared.sources.Span.{Span}
-use Rattle.pd_shrink.proofs.MetLemmas.{met_behind, none_behind, none_taken}
+use Rattle.pd_shrink.proofs.MovingLemmas.{met_behind, none_behind, none_taken}
 use Rattle.pd_shrink.proofs.SpanLemmas.{met_small, past_met}
 use Rattle.pd_shrink.proofs.sources.add_spans.Goals as goal
 use Rattle.pd_shrink.proofs.sources.add_spans.Goals.{in-Some+in_ok-add_span, in_default}

@@ -1,6 +1,6 @@
 use Rattle.std.proofs.Common.{◌≡◌, ◌++◌, take, drop}
-use Rattle.pd_runs.specs.Places.{runs_from}
-use Rattle.pd_shrink.specs.Spans.{spans_past}
+use Rattle.pd_meaning_thin.specs.Packed.{runs_from}
+use Rattle.pd_shrink.specs.Making.{spans_past}
 use Rattle.pd_shrink.proofs.sources.add_spans.Given as goal
 
 -- those of the runs so far were added, and the place is behind these

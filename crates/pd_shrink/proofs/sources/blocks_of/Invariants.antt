@@ -1,5 +1,5 @@
 use Rattle.std.proofs.Common.{◌≡◌, ◌++◌, drop}
-use Rattle.pd_shrink.specs.Spans.{union_from}
+use Rattle.pd_shrink.specs.Making.{union_from}
 use Rattle.pd_shrink.proofs.sources.blocks_of.Given as goal
 
 -- the blocks so far, and those of the rows that are left

@@ -1,6 +1,6 @@
 use Rattle.std.proofs.Common.{◌++◌, ap, ◌∙◌}
 use Rattle.std.proofs.lemmas.Result.{IfOk-weaker}
-use Rattle.pd_shrink.specs.Spans.{spans_past, union_from}
+use Rattle.pd_shrink.specs.Making.{spans_past, union_from}
 use Rattle.pd_shrink.proofs.SpanLemmas.{leaf_runs_small, own_runs_small, sources_kept}
 use Rattle.pd_shrink.proofs.sources.find_sources.Goals as goal
 

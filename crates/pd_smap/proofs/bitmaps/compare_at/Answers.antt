@@ -5,7 +5,7 @@ use Rattle.pd_smap.proofs.StepLemmas.{ok_maps, err_maps}
 use Rattle.pd_smap.proofs.CountLemmas.{on_err}
 use Rattle.pd_smap.proofs.bitmaps.compare_at.Goals as goal
 use Rattle.pd_smap.proofs.CountLemmas.{block_stopped}
-use Rattle.pd_smap.proofs.BitmapLemmas.{read_then, read_stopped, same_bits, before_reading}
+use Rattle.pd_smap.proofs.CountLemmas.{read_then, read_stopped, same_bits, before_reading}
 
 pub returns-in_err-read_bitmap-clause-stopped : goal.returns-in_err-read_bitmap-clause-stopped
 returns-in_err-read_bitmap-clause-stopped g c =

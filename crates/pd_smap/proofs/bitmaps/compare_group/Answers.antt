@@ -1,7 +1,7 @@
 use Rattle.pd_smap.specs.Overflow.{comparison_state}
 use Rattle.pd_smap.specs.Steps.{bits_from}
 use Rattle.pd_smap.proofs.StepLemmas.{went_equal}
-use Rattle.pd_smap.proofs.GroupLemmas.{equal_bits}
+use Rattle.pd_smap.proofs.CountLemmas.{equal_bits}
 use Rattle.pd_smap.proofs.bitmaps.compare_group.Goals as goal
 
 pub returns-then-are_equal-clause-went : goal.returns-then-are_equal-clause-went

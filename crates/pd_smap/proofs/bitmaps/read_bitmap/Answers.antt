@@ -1,6 +1,6 @@
 use Rattle.std.proofs.Common.{◌∙◌, arith, sym}
-use Rattle.pd_smap.proofs.OverflowLeftLemmas.{if_maps}
-use Rattle.pd_smap.proofs.BitmapLemmas.{outside_bits}
+use Rattle.pd_kinds.proofs.ResultLemmas.{if_maps}
+use Rattle.pd_smap.proofs.CountLemmas.{outside_bits}
 use Rattle.pd_smap.proofs.bitmaps.read_bitmap.Goals as goal
 
 pub returns-else-place-blocks-clause-counts : goal.returns-else-place-blocks-clause-counts

@@ -1,15 +1,15 @@
 use Rattle.std.proofs.Common.{ℕ, ◌+◌, List, length, ap}
-use Rattle.pd_kinds.specs.declared.fault.Space.TheVariants.{DataBlock}
+use Rattle.pd_kinds.specs.declared.rule.Space.TheVariants.{DataBlock}
 use Rattle.pd_kinds.specs.Bitmap.{bitmaps_for}
 use Rattle.pd_kinds.specs.Trees.{stored_data_in}
+use Rattle.pd_kinds.proofs.ResultLemmas.{if_maps, if_then}
 use Rattle.pd_count.specs.Counted.{count_of}
 use Rattle.pd_value.specs.declared.space_map.IndexEntry.{IndexEntry}
 use Rattle.pd_tree.specs.Cursor.{cursor_items, cursor_nodes}
-use Rattle.pd_smap.specs.Entries.{IsOverflow, index_from, index_of, overflow_of, place_in}
-use Rattle.pd_smap.specs.Counted.{faults_from}
+use Rattle.pd_smap.specs.Overflow.{IsOverflow, index_from, index_of, overflow_of, place_in}
+use Rattle.pd_smap.specs.Steps.{faults_from}
 use Rattle.pd_smap.specs.Overflow.{comparison_state}
 use Rattle.pd_smap.specs.Steps.{with_nodes}
-use Rattle.pd_smap.proofs.OverflowLeftLemmas.{if_maps, if_then}
 use Rattle.pd_smap.proofs.CountLemmas.{on_err}
 use Rattle.pd_smap.proofs.MapLemmas.{data_added, data_front, nothing_added}
 use Rattle.pd_smap.proofs.data.compare_data.Goals as goal

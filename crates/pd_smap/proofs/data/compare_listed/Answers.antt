@@ -1,22 +1,17 @@
-use Rattle.std.proofs.Common.{◌≡◌, ◌∙◌, ℕ, ◌+◌, ◌-◌, ◌*◌, ◌^◌, ◌<◌, min, length, IfSome, arith, sym, ap, subst}
-use Rattle.pd_kinds.specs.declared.fault.Space.TheVariants.{DataBlock}
+use Rattle.std.proofs.Common.{◌≡◌, ◌∙◌, ◌+◌, ◌-◌, ◌*◌, ◌^◌, ◌<◌, min, length, IfSome, arith, sym, ap, subst}
+use Rattle.pd_kinds.specs.declared.rule.Space.TheVariants.{DataBlock}
 use Rattle.pd_kinds.specs.Bitmap.{bitmaps_for}
+use Rattle.pd_kinds.proofs.NumberLemmas.{add_next, add_none}
+use Rattle.pd_kinds.proofs.ResultLemmas.{if_all, if_maps, if_then}
 use Rattle.pd_count.specs.Counted.{count_of}
 use Rattle.pd_tree.specs.Cursor.{cursor_items, cursor_nodes}
-use Rattle.pd_smap.specs.Entries.{index_from, place_in}
+use Rattle.pd_smap.specs.Overflow.{index_from, place_in}
 use Rattle.pd_smap.specs.Overflow.{comparison_state, overflow_items, overflow_reads}
 use Rattle.pd_smap.specs.Steps.{bits_by, with_nodes}
-use Rattle.pd_smap.proofs.OverflowLeftLemmas.{if_maps, if_then}
-use Rattle.pd_smap.proofs.StepLemmas.{went_many, went_next, went_nowhere, went_reading, went_reads, stopped_next, still_attached, if_all}
+use Rattle.pd_smap.proofs.StepLemmas.{went_many, went_next, went_nowhere, went_reading, went_reads, stopped_next, still_attached}
 use Rattle.pd_smap.proofs.CountLemmas.{block_stopped, on_err}
-use Rattle.pd_smap.proofs.BitmapLemmas.{map_went, map_stopped}
+use Rattle.pd_smap.proofs.CountLemmas.{map_went, map_stopped}
 use Rattle.pd_smap.proofs.data.compare_listed.Goals as goal
-
-add_none : (i : ℕ) → i ≡ i + 0
-add_none i = omega arith
-
-add_next : (i j : ℕ) → i + 1 + j ≡ i + (j + 1)
-add_next i j = omega arith
 
 pub loop-i-init : goal.loop-i-init
 loop-i-init g c = record {

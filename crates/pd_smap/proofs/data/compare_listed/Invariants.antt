@@ -1,9 +1,9 @@
 use Rattle.std.proofs.Common.{◌≡◌, ℕ, ◌+◌, ◌-◌, ◌*◌, min, length, IfSome}
-use Rattle.pd_kinds.specs.declared.fault.Space.TheVariants.{DataBlock}
+use Rattle.pd_kinds.specs.declared.rule.Space.TheVariants.{DataBlock}
 use Rattle.pd_kinds.specs.Bitmap.{bitmaps_for}
 use Rattle.pd_count.specs.Counted.{count_of}
 use Rattle.pd_tree.specs.Cursor.{cursor_items, cursor_nodes}
-use Rattle.pd_smap.specs.Entries.{index_from, place_in}
+use Rattle.pd_smap.specs.Overflow.{index_from, place_in}
 use Rattle.pd_smap.specs.Overflow.{comparison_state}
 use Rattle.pd_smap.specs.Steps.{ComparesRange, bits_by, with_nodes}
 use Rattle.pd_smap.proofs.data.compare_listed.Given as goal

@@ -1,5 +1,5 @@
 use Rattle.pd_kinds.specs.Trees.{entries_below}
-use Rattle.pd_smap.proofs.EntryLemmas.{index_keys, index_stored}
+use Rattle.pd_smap.proofs.OverflowLeftLemmas.{index_keys, index_stored}
 use Rattle.pd_smap.proofs.laws.index_trees_name_bitmaps.Goals as goal
 
 pub returns-clause-keys : goal.returns-clause-keys

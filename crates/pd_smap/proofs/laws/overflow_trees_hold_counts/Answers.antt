@@ -1,5 +1,5 @@
 use Rattle.pd_kinds.specs.Trees.{entries_below}
-use Rattle.pd_smap.proofs.EntryLemmas.{overflow_entries}
+use Rattle.pd_smap.proofs.OverflowLeftLemmas.{overflow_entries}
 use Rattle.pd_smap.proofs.laws.overflow_trees_hold_counts.Goals as goal
 
 pub returns-clause-searchable : goal.returns-clause-searchable

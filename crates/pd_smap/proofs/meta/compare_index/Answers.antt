@@ -1,13 +1,13 @@
 use Rattle.std.proofs.Common.{◌+◌, arith, refl}
-use Rattle.pd_kinds.specs.declared.fault.Space.TheVariants.{Meta}
+use Rattle.pd_kinds.specs.declared.rule.Space.TheVariants.{Meta}
 use Rattle.pd_kinds.specs.Bitmap.{bitmaps_for, index_block_at}
 use Rattle.pd_graph.specs.Audit.{count_at}
-use Rattle.pd_smap.specs.Entries.{meta_place}
+use Rattle.pd_smap.specs.Overflow.{meta_place}
 use Rattle.pd_smap.specs.Overflow.{overflow_items, overflow_reads}
 use Rattle.pd_smap.specs.Steps.{bits_by}
 use Rattle.pd_smap.proofs.StepLemmas.{ok_maps, err_maps, went_reads, stopped_reads}
 use Rattle.pd_smap.proofs.CountLemmas.{on_err, block_stopped}
-use Rattle.pd_smap.proofs.BitmapLemmas.{before_many, read_then, read_stopped}
+use Rattle.pd_smap.proofs.CountLemmas.{before_many, read_then, read_stopped}
 use Rattle.pd_smap.proofs.MapLemmas.{index_bits}
 use Rattle.pd_smap.proofs.meta.compare_index.Goals as goal
 

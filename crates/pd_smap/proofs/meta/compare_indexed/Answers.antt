@@ -1,12 +1,13 @@
 use Rattle.std.proofs.Common.{◌+◌, ◌-◌, ◌*◌, ◌^◌, ◌<◌, min, arith, sym}
-use Rattle.pd_kinds.specs.declared.fault.Space.TheVariants.{Meta}
+use Rattle.pd_kinds.specs.declared.rule.Space.TheVariants.{Meta}
 use Rattle.pd_kinds.specs.Bitmap.{bitmaps_for, index_block_at}
+use Rattle.pd_kinds.proofs.ResultLemmas.{if_all}
 use Rattle.pd_graph.specs.Audit.{count_at}
 use Rattle.pd_smap.specs.Overflow.{comparison_state, overflow_reads}
 use Rattle.pd_smap.specs.Steps.{bits_by, with_reads}
-use Rattle.pd_smap.proofs.StepLemmas.{went_many, went_nowhere, went_reads, still_attached, if_all}
+use Rattle.pd_smap.proofs.StepLemmas.{went_many, went_nowhere, went_reads, still_attached}
 use Rattle.pd_smap.proofs.CountLemmas.{on_err}
-use Rattle.pd_smap.proofs.BitmapLemmas.{map_went, map_stopped}
+use Rattle.pd_smap.proofs.CountLemmas.{map_went, map_stopped}
 use Rattle.pd_smap.proofs.meta.compare_indexed.Goals as goal
 
 pub loop-i-init : goal.loop-i-init

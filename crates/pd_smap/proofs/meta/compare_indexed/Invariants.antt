@@ -1,5 +1,5 @@
 use Rattle.std.proofs.Common.{◌-◌, ◌*◌, min}
-use Rattle.pd_kinds.specs.declared.fault.Space.TheVariants.{Meta}
+use Rattle.pd_kinds.specs.declared.rule.Space.TheVariants.{Meta}
 use Rattle.pd_kinds.specs.Bitmap.{bitmaps_for, index_block_at}
 use Rattle.pd_graph.specs.Audit.{count_at}
 use Rattle.pd_smap.specs.Overflow.{comparison_state}

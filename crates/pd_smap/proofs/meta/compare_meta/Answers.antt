@@ -1,13 +1,13 @@
 use Rattle.std.proofs.Common.{◌+◌}
-use Rattle.pd_kinds.specs.declared.fault.Space.TheVariants.{Meta}
+use Rattle.pd_kinds.specs.declared.rule.Space.TheVariants.{Meta}
 use Rattle.pd_kinds.specs.Bitmap.{bitmaps_for}
 use Rattle.pd_kinds.specs.Trees.{stored_meta_in}
+use Rattle.pd_kinds.proofs.ResultLemmas.{if_then}
 use Rattle.pd_graph.specs.Audit.{count_at}
-use Rattle.pd_smap.specs.Entries.{IsOverflow, overflow_of}
-use Rattle.pd_smap.specs.Counted.{faults_from}
+use Rattle.pd_smap.specs.Overflow.{IsOverflow, overflow_of}
+use Rattle.pd_smap.specs.Steps.{faults_from}
 use Rattle.pd_smap.specs.Overflow.{comparison_state}
 use Rattle.pd_smap.specs.Steps.{with_reads}
-use Rattle.pd_smap.proofs.OverflowLeftLemmas.{if_then}
 use Rattle.pd_smap.proofs.CountLemmas.{on_err}
 use Rattle.pd_smap.proofs.MapLemmas.{meta_added, meta_front, nothing_added}
 use Rattle.pd_smap.proofs.meta.compare_meta.Goals as goal

@@ -6,7 +6,7 @@ use Rattle.pd_draft.specs.DraftState.{draft_state}
 use Rattle.pd_build.proofs.RowLemmas.{moved_by, row_next, wrote_nothing}
 use Rattle.pd_count.specs.Counted.{count_of}
 use Rattle.pd_smwrite.specs.Map.{bitmap_blocks, written_bitmap}
-use Rattle.pd_smwrite.proofs.RangeLemmas.{range_more}
+use Rattle.pd_smwrite.proofs.FreeLemmas.{range_more}
 use Rattle.pd_smwrite.proofs.bitmaps.write_bitmaps.Goals as goal
 
 pub loop-i-init : goal.loop-i-init

@@ -1,8 +1,8 @@
 use Rattle.std.proofs.Common.{◌≡◌}
 use Rattle.std.specs.List.{range_with_len}
-use Rattle.pd_draft.specs.Placed.{Wrote}
+use Rattle.pd_draft.specs.Closed.{Wrote}
 use Rattle.pd_draft.specs.DraftState.{draft_state}
-use Rattle.pd_laid.specs.Tree.{blocks_from}
+use Rattle.pd_laid.specs.Laid.{blocks_from}
 use Rattle.pd_count.specs.Counted.{count_of}
 use Rattle.pd_smwrite.specs.Map.{written_bitmap}
 use Rattle.pd_smwrite.proofs.bitmaps.write_bitmaps.Given as goal

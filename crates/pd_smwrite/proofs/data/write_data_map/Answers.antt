@@ -1,10 +1,10 @@
 use Rattle.std.proofs.Common.{◌≡◌, ◌+◌, ◌≤◌, ℕ, length, ◌∙◌, ap, subst, arith}
 use Rattle.pd_kinds.specs.Bitmap.{bitmaps_for}
-use Rattle.pd_draft.specs.Placed.{Wrote}
+use Rattle.pd_draft.specs.Closed.{Wrote}
 use Rattle.pd_draft.specs.DraftState.{draft_state}
-use Rattle.pd_spells.specs.Need.{need_tree}
-use Rattle.pd_laid.specs.Map.{index_items, overflow_items}
-use Rattle.pd_laid.specs.Tree.{tree_blocks, tree_root}
+use Rattle.pd_grammar.specs.Need.{need_tree}
+use Rattle.pd_laid.specs.Laid.{index_items, overflow_items}
+use Rattle.pd_laid.specs.Laid.{tree_blocks, tree_root}
 use Rattle.pd_count.specs.Counted.{count_of}
 use Rattle.pd_smwrite.specs.Map.{data_map_need, index_at, overflow_at}
 use Rattle.pd_smwrite.proofs.MapLemmas.{bitmaps_moved, index_moved, data_map_then, root_is}

@@ -1,10 +1,10 @@
 use Rattle.std.proofs.Common.{◌≡◌, ℕ, map, ap, arith, ◌∙◌}
 use Rattle.std.specs.List.{range_with_len}
-use Rattle.pd_bitmap.proofs.IndexRow.{code_of}
+use Rattle.pd_bitmap.proofs.Placed.{code_of}
 use Rattle.pd_kinds.specs.Bitmap.{bitmaps_for}
-use Rattle.pd_laid.specs.Map.{index_entry_of}
+use Rattle.pd_laid.specs.Laid.{index_entry_of}
 use Rattle.pd_count.specs.Counted.{count_of}
-use Rattle.pd_smwrite.proofs.IndexLemmas.{codes_more}
+use Rattle.pd_smwrite.proofs.MapLemmas.{codes_more}
 use Rattle.pd_smwrite.proofs.index.entries_of.Goals as goal
 
 pub loop-i-init : goal.loop-i-init

@@ -1,7 +1,7 @@
 use Rattle.std.proofs.Common.{◌≡◌, map}
 use Rattle.std.specs.List.{range_with_len}
-use Rattle.pd_bitmap.proofs.IndexRow.{code_of}
-use Rattle.pd_laid.specs.Map.{index_entry_of}
+use Rattle.pd_bitmap.proofs.Placed.{code_of}
+use Rattle.pd_laid.specs.Laid.{index_entry_of}
 use Rattle.pd_count.specs.Counted.{count_of}
 use Rattle.pd_smwrite.proofs.index.entries_of.Given as goal
 

@@ -1,10 +1,10 @@
 use Rattle.std.proofs.Common.{◌+◌, List, length, map, ◌∙◌, ap, arith}
-use Rattle.pd_bitmap.proofs.IndexRow.{code_of}
+use Rattle.pd_bitmap.proofs.Placed.{code_of}
 use Rattle.pd_kinds.specs.Bitmap.{bitmaps_for, index_salt, placed_block, unsealed_index}
-use Rattle.pd_laid.specs.Map.{index_entry_of}
+use Rattle.pd_laid.specs.Laid.{index_entry_of}
 use Rattle.pd_count.specs.Counted.{count_of}
 use Rattle.pd_smwrite.specs.Map.{index_block}
-use Rattle.pd_smwrite.proofs.IndexLemmas.{number_of_codes}
+use Rattle.pd_smwrite.proofs.MapLemmas.{number_of_codes}
 use Rattle.pd_smwrite.proofs.index.index_block.Goals as goal
 
 pub new_index-block-requires : goal.new_index-block-requires

@@ -1,17 +1,18 @@
 use Rattle.std.proofs.Common.{◌≡◌, length, refl, sym, ◌∙◌, ap, arith}
-use Rattle.pd_spells.specs.Need.{need_tree}
-use Rattle.pd_laid.specs.Map.{index_items}
+use Rattle.pd_grammar.specs.Need.{need_tree}
+use Rattle.pd_laid.specs.Laid.{index_items}
+use Rattle.pd_laid.proofs.PartSizes.{index_number}
 use Rattle.pd_build.proofs.BuildingLemmas.{building_start, building_next, building_end, building_root}
 use Rattle.pd_build.proofs.TreeLemmas.{on_ok}
 use Rattle.pd_count.specs.Counted.{count_of}
-use Rattle.pd_smwrite.proofs.IndexLemmas.{length-index_items, index_ascends, index_next, index_end}
+use Rattle.pd_smwrite.proofs.MapLemmas.{index_ascends, index_next, index_end}
 use Rattle.pd_smwrite.proofs.index.write_index_tree.Goals as goal
 
 pub loop-i-init : goal.loop-i-init
 loop-i-init g c =
     let counts = c.args.counts.now in
     let all = index_items (count_of counts) counts.size c.args.first in
-    let count : length all ≡ c.bitmap_number-number.result = length-index_items (count_of counts) counts.size c.args.first ∙ sym c.bitmap_number-number.ensures in
+    let count : length all ≡ c.bitmap_number-number.result = index_number (count_of counts) counts.size c.args.first ∙ sym c.bitmap_number-number.ensures in
     let n = c.in_ok-builder.ensures in
     record {
       same_reference = refl;
@@ -38,7 +39,7 @@ pub put-requires-clause-room : goal.put-requires-clause-room
 put-requires-clause-room g c =
     let counts = c.args.counts.now in
     let b = c.loop-i.invariant.building in
-    let same = ap (need_tree 16) (length-index_items (count_of counts) counts.size c.args.first) in
+    let same = ap (need_tree 16) (index_number (count_of counts) counts.size c.args.first) in
     omega (arith, c.requires.room, b.room, b.wrote.stays.kept.blocks, same)
 
 pub loop-i-preserved : goal.loop-i-preserved
@@ -60,7 +61,7 @@ pub finish-requires-clause-room : goal.finish-requires-clause-room
 finish-requires-clause-room g c =
     let counts = c.args.counts.now in
     let b = c.loop-i.invariant.building in
-    let same = ap (need_tree 16) (length-index_items (count_of counts) counts.size c.args.first) in
+    let same = ap (need_tree 16) (index_number (count_of counts) counts.size c.args.first) in
     omega (arith, c.requires.room, b.room, b.wrote.stays.kept.blocks, same)
 
 pub returns-clause-wrote : goal.returns-clause-wrote

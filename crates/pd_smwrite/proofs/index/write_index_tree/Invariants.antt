@@ -1,6 +1,6 @@
 use Rattle.std.proofs.Common.{◌≡◌, drop}
 use Rattle.pd_draft.specs.DraftState.{draft_state}
-use Rattle.pd_laid.specs.Map.{index_items}
+use Rattle.pd_laid.specs.Laid.{index_items}
 use Rattle.pd_build.specs.Building.{IsBuilding}
 use Rattle.pd_count.specs.Counted.{count_of}
 use Rattle.pd_smwrite.proofs.index.write_index_tree.Given as goal

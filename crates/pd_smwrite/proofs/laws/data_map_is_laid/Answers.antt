@@ -1,4 +1,4 @@
-use Rattle.pd_smwrite.proofs.PoolLemmas.{pool_written, pool_root}
+use Rattle.pd_smwrite.proofs.MapLemmas.{pool_written, pool_root}
 use Rattle.pd_smwrite.proofs.laws.data_map_is_laid.Goals as goal
 
 pub returns-clause-written : goal.returns-clause-written

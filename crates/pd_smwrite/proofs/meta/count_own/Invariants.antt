@@ -1,4 +1,4 @@
-use Rattle.pd_smwrite.specs.Own.{CountsOwn}
+use Rattle.pd_smwrite.specs.Map.{CountsOwn}
 use Rattle.pd_smwrite.proofs.meta.count_own.Given as goal
 
 abbrev pub invariant-loop-i : goal.invariant-loop-i

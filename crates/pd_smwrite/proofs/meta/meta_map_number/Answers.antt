@@ -1,7 +1,7 @@
 use Rattle.std.proofs.Common.{◌≡◌, ◌+◌, ◌<◌, ◌^◌, length, ◌∙◌, ap, arith}
 use Rattle.pd_kinds.specs.Bitmap.{bitmaps_for}
-use Rattle.pd_spells.specs.Need.{need_tree, nodes_of_tree}
-use Rattle.pd_laid.specs.Map.{overflow_items}
+use Rattle.pd_grammar.specs.Need.{need_tree, nodes_of_tree}
+use Rattle.pd_laid.specs.Laid.{overflow_items}
 use Rattle.pd_count.specs.Counted.{count_of}
 use Rattle.pd_smwrite.specs.Map.{meta_map_need}
 use Rattle.pd_smwrite.proofs.meta.meta_map_number.Goals as goal

@@ -1,9 +1,9 @@
 use Rattle.std.proofs.Common.{◌≡◌, ◌+◌, ◌≤◌, ℕ, length, ◌∙◌, ap, arith}
 use Rattle.pd_kinds.specs.Bitmap.{bitmaps_for}
 use Rattle.pd_draft.specs.DraftState.{draft_state}
-use Rattle.pd_spells.specs.Need.{need_tree}
-use Rattle.pd_laid.specs.Map.{overflow_items}
-use Rattle.pd_laid.specs.Tree.{tree_root}
+use Rattle.pd_grammar.specs.Need.{need_tree}
+use Rattle.pd_laid.specs.Laid.{overflow_items}
+use Rattle.pd_laid.specs.Laid.{tree_root}
 use Rattle.pd_count.specs.Counted.{count_of}
 use Rattle.pd_smwrite.specs.Map.{meta_map_need, meta_overflow_at}
 use Rattle.pd_smwrite.proofs.MapLemmas.{bitmaps_moved, meta_map_then, root_is}

@@ -2,7 +2,7 @@ use Rattle.std.proofs.Common.{◌≡◌, length, rules}
 use Rattle.std.proofs.Math.Bool.{and-false}
 use Rattle.pd_kinds.specs.declared.kind.Kind.TheVariants.{Era}
 use Rattle.pd_kinds.specs.declared.rule.Rule.TheVariants as r
-use Rattle.pd_kinds.specs.RuleSet.{failing}
+use Rattle.pd_kinds.specs.Rule.{failing}
 use Rattle.pd_kinds.specs.EraFormat.{era_super_bad, era_super_block, era_super_tests}
 use Rattle.pd_kinds.proofs.SuperLemmas.{met_by_tests, place_tested}
 use Rattle.pd_supers.proofs.EraWritten.{reads_back}

@@ -2,8 +2,8 @@ use Rattle.std.proofs.Common.{◌≡◌, length, rules}
 use Rattle.std.proofs.Math.Bool.{and-false}
 use Rattle.pd_kinds.specs.declared.kind.Kind.TheVariants.{Thin}
 use Rattle.pd_kinds.specs.declared.rule.Rule.TheVariants as r
-use Rattle.pd_kinds.specs.RuleSet.{failing}
-use Rattle.pd_kinds.specs.ThinSuper.{thin_super_bad, thin_super_block, thin_super_tests}
+use Rattle.pd_kinds.specs.Rule.{failing}
+use Rattle.pd_kinds.specs.ThinFormat.{thin_super_bad, thin_super_block, thin_super_tests}
 use Rattle.pd_kinds.proofs.SuperLemmas.{met_by_tests, place_tested}
 use Rattle.pd_supers.proofs.ThinWritten.{reads_back}
 use Rattle.pd_supers.proofs.thin.write_thin_super.Goals as goal

@@ -1,6 +1,6 @@
 use Rattle.std.proofs.Common.{slice_index, sym}
 use Rattle.pd_grammar.proofs.TableLemmas.{values_at}
-use Rattle.pd_texts.specs.Seen.{seen_by}
+use Rattle.pd_texts.specs.Words.{seen_by}
 use Rattle.pd_texts.specs.Words.{words_in, name_at}
 use Rattle.pd_texts.proofs.ValueLemmas.{read_none, read_elsewhere, read_words, read_err}
 use Rattle.pd_texts.proofs.state.read_line.Goals as goal

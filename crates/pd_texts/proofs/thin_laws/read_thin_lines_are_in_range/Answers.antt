@@ -1,6 +1,6 @@
 use Rattle.std.proofs.Common.{◌∷◌, []}
-use Rattle.pd_spells.specs.ThinText.{first_line}
-use Rattle.pd_spells.proofs.ThinRead.{thin_grammar}
+use Rattle.pd_grammar.specs.ThinText.{first_line}
+use Rattle.pd_grammar.proofs.ThinRead.{thin_grammar}
 use Rattle.pd_texts.proofs.ThinNextLemmas.{pool_read, device_read, map_read, end_read}
 use Rattle.pd_texts.proofs.thin_laws.read_thin_lines_are_in_range.Goals as goal
 

@@ -1,10 +1,10 @@
 use Rattle.pd_grammar.proofs.GrammarLemmas.{is_reader}
-use Rattle.pd_spells.specs.ThinText.{thin, pool_format, MeansPool}
-use Rattle.pd_spells.proofs.ThinRead.{FitsLine, Placed, PlacedInPool, pool_grammar}
-use Rattle.pd_spells.proofs.ThinLaws.{thin_language}
+use Rattle.pd_grammar.specs.ThinText.{thin, pool_format, MeansPool}
+use Rattle.pd_grammar.proofs.ThinRead.{FitsLine, Placed, PlacedInPool, pool_grammar}
+use Rattle.pd_grammar.proofs.ThinLaws.{thin_language}
 use Rattle.pd_texts.proofs.LawLemmas.{whole_spells}
 use Rattle.pd_texts.proofs.LawLemmas as any
-use Rattle.pd_texts.proofs.ThinLemmas.{whole_bytes}
+use Rattle.pd_texts.proofs.ThinNextLemmas.{whole_bytes}
 use Rattle.pd_texts.proofs.thin_laws.whole_thin_text_spells.Goals as goal
 
 pub returns : goal.returns

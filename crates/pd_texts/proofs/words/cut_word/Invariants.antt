@@ -1,5 +1,5 @@
 use Rattle.std.proofs.Common.{take}
-use Rattle.pd_grammar.proofs.SplitLemmas.{Lacks}
+use Rattle.pd_grammar.proofs.WordLemmas.{Lacks}
 use Rattle.pd_texts.proofs.words.cut_word.Given as goal
 
 abbrev pub invariant-loop-i : goal.invariant-loop-i

@@ -2,7 +2,7 @@ use Rattle.std.proofs.Common.{sym, ◌∙◌, ap, ◌≡◌, false}
 use Rattle.std.proofs.lemmas.Bool.{true≢false}
 use Rattle.std.specs.Str.{bytes_eq}
 use Rattle.uuid.specs.Text.{parsed, hyphenated_text, lower}
-use Rattle.pd_texts.proofs.NumberWords.{other_bytes, no_bytes}
+use Rattle.pd_texts.proofs.WordLemmas.{other_bytes, no_bytes}
 use Rattle.pd_texts.proofs.words.read_uuid.Goals as goal
 
 pub returns-in_default : goal.returns-in_default

@@ -1,9 +1,9 @@
 use Rattle.std.proofs.Common.{◌∙◌}
-use Rattle.pd_image.proofs.ReadLemmas.{only_reads_both}
-use Rattle.pd_tree.specs.Items.{root_of}
-use Rattle.pd_whole.proofs.ChargeLemmas.{keeps_both}
-use Rattle.pd_thin.specs.Peeked.{peeked_items}
-use Rattle.pd_thin.specs.DeviceCursors.{cursors_reads}
+use Rattle.pd_image.proofs.CrashLemmas.{only_reads_both}
+use Rattle.pd_tree.specs.Cursor.{root_of}
+use Rattle.pd_check.proofs.SharedLemmas.{keeps_both}
+use Rattle.pd_thin.specs.DevicePairs.{peeked_items}
+use Rattle.pd_thin.specs.DevicePairs.{cursors_reads}
 use Rattle.pd_thin.specs.DevicePairs.{details_of}
 use Rattle.pd_thin.proofs.TreePairLemmas.{way_more, way_last, reads_more}
 use Rattle.pd_thin.proofs.device_pairs.compare.Goals as goal

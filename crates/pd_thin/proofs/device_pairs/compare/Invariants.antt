@@ -1,9 +1,9 @@
 use Rattle.std.proofs.Common.{◌≡◌, ◌+◌, ◌≤◌, IfSome}
 use Rattle.pd_image.specs.Device.{OnlyReads}
 use Rattle.pd_graph.specs.Audit.{KeepsButRules}
-use Rattle.pd_tree.specs.Items.{root_of}
-use Rattle.pd_thin.specs.Peeked.{peeked_items}
-use Rattle.pd_thin.specs.DeviceCursors.{cursors_number, cursors_reads}
+use Rattle.pd_tree.specs.Cursor.{root_of}
+use Rattle.pd_thin.specs.DevicePairs.{peeked_items}
+use Rattle.pd_thin.specs.DevicePairs.{cursors_number, cursors_reads}
 use Rattle.pd_thin.specs.DevicePairs.{details_of}
 use Rattle.pd_thin.proofs.TreePairLemmas.{Way}
 use Rattle.pd_thin.proofs.device_pairs.compare.Given as goal

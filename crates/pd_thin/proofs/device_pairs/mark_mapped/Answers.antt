@@ -1,5 +1,5 @@
 use Rattle.std.proofs.Common.{ℕ, not, nat_eq, ap, ◌∙◌}
-use Rattle.pd_whole.proofs.ChargeLemmas.{charges_where}
+use Rattle.pd_check.proofs.SharedLemmas.{charges_where}
 use Rattle.pd_thin.proofs.device_pairs.mark_mapped.Goals as goal
 
 pub returns-clause-charges : goal.returns-clause-charges

@@ -1,6 +1,6 @@
 use Rattle.pd_tree.specs.Cursor.{cursor_items}
-use Rattle.pd_tree.specs.Items.{root_of}
-use Rattle.pd_thin.specs.Peeked.{peeked_items}
+use Rattle.pd_tree.specs.Cursor.{root_of}
+use Rattle.pd_thin.specs.DevicePairs.{peeked_items}
 use Rattle.pd_thin.specs.DevicePairs.{details_of}
 use Rattle.pd_thin.proofs.TreePairLemmas.{told_top, told_detail, told_device}
 use Rattle.pd_thin.proofs.device_pairs.take_turn.Goals as goal

@@ -2,8 +2,8 @@ use Rattle.std.proofs.Common.{◌≡◌, ℕ, List}
 use Rattle.pd_kinds.specs.Graph.{Graph, block_at}
 use Rattle.pd_kinds.specs.Stages.{IsReached}
 use Rattle.pd_kinds.specs.Whole.{roots_in}
-use Rattle.pd_graph.proofs.AnyLemmas.{if_any}
-use Rattle.pd_whole.specs.Charges.{Charges}
+use Rattle.pd_kinds.proofs.ResultLemmas.{if_any}
+use Rattle.pd_check.specs.Known.{Charges}
 use Rattle.pd_thin.specs.Pool.{IsKnownPool, AreReached, held_tests}
 use Rattle.pd_thin.proofs.WholeTests.{held_none}
 use Rattle.pd_thin.proofs.pool.mark_held.Goals as goal

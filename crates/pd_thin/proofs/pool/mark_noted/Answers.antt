@@ -1,8 +1,8 @@
 use Rattle.pd_kinds.specs.Bitmap.{bitmaps_for}
-use Rattle.pd_whole.proofs.ChargeLemmas.{keeps_both}
+use Rattle.pd_check.proofs.SharedLemmas.{keeps_both}
 use Rattle.pd_thin.specs.Pool.{index_test}
-use Rattle.pd_whole.proofs.KnownLemmas.{known_stays}
-use Rattle.pd_thin.proofs.PoolLemmas.{noted_tests}
+use Rattle.pd_check.proofs.KnownLemmas.{known_stays}
+use Rattle.pd_thin.proofs.WholeTests.{noted_tests}
 use Rattle.pd_thin.proofs.pool.mark_noted.Goals as goal
 
 pub returns-clause-charges : goal.returns-clause-charges

@@ -1,9 +1,9 @@
 use Rattle.std.proofs.Common.{◌∙◌}
 use Rattle.pd_tree.specs.Below.{items_below}
-use Rattle.pd_tree.specs.Items.{root_of}
-use Rattle.pd_thin.specs.Peeked.{peeked_items}
+use Rattle.pd_tree.specs.Cursor.{root_of}
+use Rattle.pd_thin.specs.DevicePairs.{peeked_items}
 use Rattle.pd_thin.specs.DevicePairs.{details_of}
-use Rattle.pd_thin.proofs.TreeTests.{trees_charged}
+use Rattle.pd_thin.proofs.TreePairLemmas.{trees_charged}
 use Rattle.pd_thin.proofs.TreePairLemmas.{trees_told}
 use Rattle.pd_thin.proofs.pool.mark_trees.Goals as goal
 

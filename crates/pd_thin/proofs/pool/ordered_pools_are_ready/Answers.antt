@@ -1,15 +1,15 @@
 use Rattle.std.proofs.Common.{◌≡◌, ℕ, List, [], ◌∷◌, refl, subst}
 use Rattle.pd_kinds.specs.declared.kind.Kind.TheVariants.{Thin}
 use Rattle.pd_kinds.specs.declared.kind.Stage.TheVariants.{Order}
-use Rattle.pd_kinds.specs.Edge.{Edge}
+use Rattle.pd_kinds.specs.Graph.{Edge}
 use Rattle.pd_kinds.specs.Graph.{block_at}
 use Rattle.pd_kinds.specs.Stages.{IsReached}
-use Rattle.pd_kinds.specs.ThinSuper.{thin_fields}
+use Rattle.pd_kinds.specs.ThinFormat.{thin_fields}
 use Rattle.pd_kinds.specs.ThinFormat.{thin_graph}
-use Rattle.pd_whole.specs.Known.{IsKnown}
-use Rattle.pd_tree.proofs.RootLemmas.{at_optional}
+use Rattle.pd_kinds.proofs.KindLemmas.{held_edges_are, super_edges}
+use Rattle.pd_check.specs.Known.{IsKnown}
+use Rattle.pd_tree.proofs.SearchableLemmas.{at_optional}
 use Rattle.pd_thin.specs.Pool.{IsReady}
-use Rattle.pd_thin.proofs.ReadyLemmas.{super_edges, copied_edges}
 use Rattle.pd_thin.proofs.pool.ordered_pools_are_ready.Goals as goal
 
 pub returns : goal.returns
@@ -33,7 +33,7 @@ returns c = λ first image audit ordered.
       roots = c.superblocks_lead_to_reached_roots.ensures.thin Order image tt ordered.none;
       held = held;
       held_roots = λ some.
-          let all = rw (copied_edges block (block_at image fields.held_root) fields.held_root (in_order.well_formed fields.held_root 1 (held some)))
+          let all = rw (held_edges_are block (block_at image fields.held_root) fields.held_root (in_order.well_formed fields.held_root 1 (held some)))
           at (c.edges_lead_to_reached_pairs.ensures.edges graph image fields.held_root 1 known.lawful (held some)) in
           record { mapping = all.0; details = all.1.0 };
     })

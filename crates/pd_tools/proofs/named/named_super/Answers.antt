@@ -1,11 +1,10 @@
 use Rattle.std.proofs.Common.{◌≡◌, ℕ, min, ap, ap₂, ◌∙◌}
 use Rattle.pd_kinds.specs.declared.limits.TheConstants.{MAX_META_BLOCKS}
-use Rattle.pd_kinds.specs.ThinSuper.{ThinFields}
-use Rattle.pd_answers.specs.NamedRoots.{pool_time, saved_time}
+use Rattle.pd_kinds.specs.ThinFormat.{ThinFields}
+use Rattle.pd_answers.specs.NamedRepairs.{pool_time, saved_time}
 use Rattle.pd_scan.specs.declared.roots.Roots.{Roots}
-use Rattle.pd_scan.specs.Roots.{lost_fields, roots_of}
-use Rattle.pd_words.specs.Words.{given_as, named_as}
-use Rattle.pd_tools.proofs.Queries.{two_told}
+use Rattle.pd_scan.specs.Pairs.{lost_fields, roots_of}
+use Rattle.pd_tools.proofs.Checks.{two_told}
 use Rattle.pd_tools.proofs.NamedRepairs.{fields_named, timeless_is}
 use Rattle.pd_tools.proofs.named.named_super.Goals as goal
 
@@ -20,7 +19,7 @@ returns-clause-named g c =
     ∙ ap₂ (λ (roots : Roots) (n : ℕ). lost_fields (roots_of roots) given.transaction given.block_size n given.blocks) c.roots_of.ensures c.usable_blocks.ensures in
     two_told (g.A.Device.state c.args.input.now).held
     (λ image number told. ap (λ (fields : ThinFields). record fields { time = time }) is
-    ∙ fields_named image (given_as given) (named_as named) blocks time number (told ∙ ap (λ (fields : ThinFields). saved_time fields image) is))
+    ∙ fields_named image given named blocks time number (told ∙ ap (λ (fields : ThinFields). saved_time fields image) is))
     (g.met.A.Device.measured c.args.input.now) c.in_ok-times.ensures.lost
 
 pub returns-clause-time : goal.returns-clause-time
@@ -32,5 +31,5 @@ returns-clause-time g c =
     c.lost_super-timeless.ensures
     ∙ ap₂ (λ (roots : Roots) (n : ℕ). lost_fields (roots_of roots) given.transaction given.block_size n given.blocks) c.roots_of.ensures c.usable_blocks.ensures in
     two_told (g.A.Device.state c.args.input.now).held
-    (λ image number told. told ∙ ap (λ (fields : ThinFields). pool_time fields image) (is ∙ timeless_is image (given_as given) (named_as named) blocks number))
+    (λ image number told. told ∙ ap (λ (fields : ThinFields). pool_time fields image) (is ∙ timeless_is image given named blocks number))
     (g.met.A.Device.measured c.args.input.now) c.in_ok-times.ensures.pool

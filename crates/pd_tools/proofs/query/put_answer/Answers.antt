@@ -1,6 +1,6 @@
 use Rattle.std.proofs.Common.{refl}
 use Rattle.pd_query.proofs.QueryLemmas.{lost_as, puts_none}
-use Rattle.pd_tools.specs.declared.stop.Stop.TheVariants.{Stream}
+use Rattle.pd_tools.specs.declared.ending.Stop.TheVariants.{Stream}
 use Rattle.pd_tools.proofs.query.put_answer.Goals as goal
 
 pub returns-in-Err-clause-text : goal.returns-in-Err-clause-text

@@ -1,23 +1,23 @@
 use Rattle.std.proofs.Common.{sym, refl, lit≤, map, string_bytes}
-use Rattle.pd_spells.specs.Lines.{usage_line}
-use Rattle.pd_answers.specs.Answer.{objects}
+use Rattle.pd_grammar.specs.Lines.{usage_line}
+use Rattle.pd_answers.specs.Terms.{objects}
 use Rattle.pd_answers.specs.Words.{asked}
 use Rattle.pd_answers.specs.Promises.{refused, terms_of}
-use Rattle.pd_kinds.proofs.AppendLemmas.{appends_none}
-use Rattle.pd_tools.specs.Notes.{IsAttachedNotes}
+use Rattle.pd_kinds.proofs.ListLemmas.{appends_none}
+use Rattle.pd_tools.specs.Ending.{IsAttachedNotes}
 use Rattle.pd_tools.proofs.Answered.{answered_put, answered_unattached}
 use Rattle.pd_tools.proofs.AtRest.{at_rest, reads_at_rest}
 use Rattle.pd_tools.proofs.run.run_tool.Goals as goal
 
-pub returns-in-Err-read_words : goal.returns-in-Err-read_words
-returns-in-Err-read_words g c =
+pub returns-in-None : goal.returns-in-None
+returns-in-None g c =
     let was : IsAttachedNotes (g.E.Sink.state c.args.notes.now) (g.E.Sink.state c.attach.new.self) = record {
       access = c.in-Ok.ensures.attached.access;
       path = c.in-Ok.ensures.attached.path;
       written = c.in-Ok.ensures.attached.written;
       faults = c.in-Ok.ensures.faults;
     } in
-    rw (sym c.in-Err-read_words.ensures.asked) (answered_put refused _ _ _ c.requires was 2 _ usage_line (record {
+    rw (sym c.in-None.ensures.asked) (answered_put refused _ _ _ c.requires was 2 _ usage_line (record {
       finding = tt;
       work = record {
         found = tt;
@@ -39,15 +39,15 @@ returns-in-Err-read_words g c =
       read = λ _. tt;
     }) tt c.put_line.ensures)
 
-pub returns-in-Ok-read_words : goal.returns-in-Ok-read_words
-returns-in-Ok-read_words g c =
+pub returns-in-Some : goal.returns-in-Some
+returns-in-Some g c =
     let was : IsAttachedNotes (g.E.Sink.state c.args.notes.now) (g.E.Sink.state c.attach.new.self) = record {
       access = c.in-Ok.ensures.attached.access;
       path = c.in-Ok.ensures.attached.path;
       written = c.in-Ok.ensures.attached.written;
       faults = c.in-Ok.ensures.faults;
     } in
-    rw (sym c.in-Ok-read_words.ensures.asked) (c.run_request.ensures (objects (g.S.Source.state c.args.source.now) (g.K.Sink.state c.args.out.now) (g.E.Sink.state c.args.notes.now)
+    rw (sym c.in-Some.ensures.asked) (c.run_request.ensures (objects (g.S.Source.state c.args.source.now) (g.K.Sink.state c.args.out.now) (g.E.Sink.state c.args.notes.now)
     (g.A.Device.state c.args.input.now) (g.B.Device.state c.args.output.now) (g.C.Device.state c.args.third.now)) c.requires was)
 
 pub returns-in-Err : goal.returns-in-Err

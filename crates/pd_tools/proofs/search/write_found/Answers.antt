@@ -1,5 +1,5 @@
 use Rattle.std.proofs.Common.{refl}
-use Rattle.pd_scan.specs.Roots.{roots_of}
+use Rattle.pd_scan.specs.Pairs.{roots_of}
 use Rattle.pd_tools.specs.Opened.{devices}
 use Rattle.pd_tools.proofs.Searches.{search_done, search_unmade}
 use Rattle.pd_tools.proofs.search.write_found.Goals as goal

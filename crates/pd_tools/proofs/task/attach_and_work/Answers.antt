@@ -1,5 +1,5 @@
 use Rattle.std.proofs.Common.{refl, sym, ap, subst}
-use Rattle.pd_answers.specs.Answer.{IsOpen, Objects}
+use Rattle.pd_answers.specs.Terms.{IsOpen, Objects}
 use Rattle.pd_answers.specs.Terms.{Uses}
 use Rattle.pd_tools.specs.Opened.{AreOpened, AreUnopened, devices}
 use Rattle.pd_tools.proofs.Tasks.{ends, left_alone, opens, unopened}

@@ -1,6 +1,6 @@
 use Rattle.std.proofs.Common.{◌≡◌, inl, inr, refl}
 use Rattle.pd_kinds.proofs.CrashLemmas.{stays, still_tells}
-use Rattle.pd_answers.specs.CachedView.{settled}
+use Rattle.pd_answers.specs.Writebacks.{settled}
 use Rattle.pd_tools.proofs.Restores.{here}
 use Rattle.pd_tools.proofs.Writebacks.{copying_rose, marking_rose}
 use Rattle.pd_tools.proofs.writeback.copy_and_mark.Goals as goal

@@ -1,7 +1,7 @@
 use Rattle.pd_kinds.specs.Trees.{entries_below}
-use Rattle.pd_tree.specs.Items.{root_of}
-use Rattle.pd_tree.proofs.EntryLemmas.{words_entries}
-use Rattle.pd_tree.proofs.RoleLemmas.{entries_are}
+use Rattle.pd_tree.specs.Cursor.{root_of}
+use Rattle.pd_tree.proofs.TreeLemmas.{words_entries}
+use Rattle.pd_tree.proofs.OnceLemmas.{entries_are}
 use Rattle.pd_tree.proofs.laws.array_cursors_give_words.Goals as goal
 
 pub returns : goal.returns

@@ -1,6 +1,6 @@
 use Rattle.pd_kinds.specs.Trees.{entries_below}
-use Rattle.pd_tree.proofs.EntryLemmas.{lookup_entries}
-use Rattle.pd_tree.proofs.RoleLemmas.{entries_are, searchable_is}
+use Rattle.pd_tree.proofs.TreeLemmas.{lookup_entries}
+use Rattle.pd_tree.proofs.OnceLemmas.{entries_are, searchable_is}
 use Rattle.pd_tree.proofs.laws.cursors_give_entries.Goals as goal
 
 pub returns-clause-entries : goal.returns-clause-entries

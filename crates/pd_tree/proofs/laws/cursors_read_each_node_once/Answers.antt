@@ -1,4 +1,4 @@
-use Rattle.pd_tree.proofs.RoleLemmas.{once_is, under_is, levels_are}
+use Rattle.pd_tree.proofs.OnceLemmas.{once_is, under_is, levels_are}
 use Rattle.pd_tree.proofs.laws.cursors_read_each_node_once.Goals as goal
 
 pub returns-clause-once : goal.returns-clause-once

@@ -1,5 +1,5 @@
 use Rattle.pd_kinds.specs.Trees.{entries_below}
-use Rattle.pd_tree.proofs.NamedLemmas.{all_lead}
+use Rattle.pd_tree.proofs.SoundLemmas.{all_lead}
 use Rattle.pd_tree.proofs.ReachLemmas.{met}
 use Rattle.pd_tree.proofs.SoundLemmas.{sound}
 use Rattle.pd_tree.proofs.laws.entries_lead_to_reached_pairs.Goals as goal

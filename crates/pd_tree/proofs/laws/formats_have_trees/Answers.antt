@@ -1,11 +1,11 @@
 use Rattle.std.proofs.Common.{◌≡◌, ℕ, ◌%◌, ◌^◌, ◌<◌, [], ◌∷◌, refl, arith}
 use Rattle.pd_kinds.specs.Node.{Entry}
-use Rattle.pd_kinds.specs.ThinSuper.{thin_fields}
+use Rattle.pd_kinds.specs.ThinFormat.{thin_fields}
 use Rattle.pd_kinds.specs.ThinFormat.{thin_graph, thin_layout}
 use Rattle.pd_kinds.specs.CacheFormat.{cache_fields, cache_graph, cache_layout}
 use Rattle.pd_kinds.specs.EraFormat.{era_fields, era_graph, era_layout, writeset_root}
 use Rattle.pd_kinds.specs.Layout.{Layout, Tree, tree, graph_of}
-use Rattle.pd_tree.specs.TreeRoles.{IsTreeRole, IsTreeTo}
+use Rattle.pd_tree.specs.Search.{IsTreeRole, IsTreeTo}
 use Rattle.pd_tree.proofs.laws.formats_have_trees.Goals as goal
 
 -- a role of a table

@@ -1,4 +1,4 @@
-use Rattle.pd_laws.specs.InOrder.{graph_of_kind}
+use Rattle.pd_kinds.specs.InOrder.{graph_of_kind}
 use Rattle.pd_tree.proofs.SoundLemmas.{sound}
 use Rattle.pd_tree.proofs.laws.reached_trees_are_sound.Goals as goal
 

@@ -2,23 +2,20 @@ use Rattle.std.proofs.Common.{◌≡◌, ℕ, false, List, [], ◌∷◌, ◌++�
 use Rattle.std.specs.List.{AllByRecursion}
 use Rattle.pd_kinds.specs.declared.kind.Kind.TheVariants.{Thin, Cache, Era}
 use Rattle.pd_kinds.specs.declared.rule.Rule.{Rule}
-use Rattle.pd_kinds.specs.Edge.{Edge, optional_edge}
+use Rattle.pd_kinds.specs.Graph.{Edge, optional_edge}
 use Rattle.pd_kinds.specs.Graph.{Graph, block_at}
 use Rattle.pd_kinds.specs.Stages.{IsReached}
-use Rattle.pd_kinds.specs.ThinSuper.{thin_fields, thin_super_edges}
-use Rattle.pd_kinds.specs.ThinFormat.{thin_graph, thin_layout}
+use Rattle.pd_kinds.specs.ThinFormat.{thin_fields}
+use Rattle.pd_kinds.specs.ThinFormat.{thin_graph}
 use Rattle.pd_kinds.specs.CacheFormat.{CacheFields, cache_fields, cache_graph, cache_layout, cache_super_edges, dirty_edges, has_dirty_bits}
 use Rattle.pd_kinds.specs.EraFormat.{era_fields, era_graph, era_layout, era_super_edges}
-use Rattle.pd_tree.proofs.RootLemmas.{super_copy_edges, behind_optional, at_optional}
+use Rattle.pd_kinds.proofs.KindLemmas.{super_edges}
+use Rattle.pd_tree.proofs.SearchableLemmas.{super_copy_edges, behind_optional, at_optional}
 use Rattle.pd_tree.proofs.laws.superblocks_lead_to_reached_roots.Goals as goal
 
 -- a block is reached in the role of an edge
 abbrev To : Graph → List (List ℕ) → Edge → Type 0
 To graph image e = IsReached graph image e.block e.role
-
-thin_edges : (block : List ℕ) → ((rule : Rule) → (thin_graph block).bad 0 0 block rule ≡ false) → (thin_graph block).edges 0 0 block ≡ thin_super_edges (thin_fields block)
-unfolding thin_graph thin_layout
-thin_edges block clean = super_copy_edges 11 (thin_fields block).meta_map.blocks (thin_fields block).data_map.blocks (thin_layout (thin_fields block).meta_map.blocks (thin_fields block).data_map.blocks) _ (λ block. thin_super_edges (thin_fields block)) block refl clean
 
 cache_edges : (block : List ℕ) → ((rule : Rule) → (cache_graph block).bad 0 0 block rule ≡ false) → (cache_graph block).edges 0 0 block ≡ cache_super_edges (cache_fields block)
 unfolding cache_graph cache_layout
@@ -40,7 +37,7 @@ returns-clause-thin c = λ until image looks none.
     let lawful = c.trees_are_in_order.ensures.lawful Thin until image none in
     let ordered = c.trees_are_in_order.ensures.in_order Thin until image looks none in
     let start = c.edges_lead_to_reached_pairs.ensures.start graph image lawful in
-    let all = rw (thin_edges block (ordered.well_formed 0 0 start)) at (c.edges_lead_to_reached_pairs.ensures.edges graph image 0 0 lawful start) in
+    let all = rw (super_edges block (ordered.well_formed 0 0 start)) at (c.edges_lead_to_reached_pairs.ensures.edges graph image 0 0 lawful start) in
     let roots = behind_optional (To graph image) 1 fields.held_root
     (record { role = 2; block = fields.mapping_root } ∷ record { role = 4; block = fields.details_root } ∷ record { role = 5; block = fields.data_map.bitmap_root } ∷ record { role = 7; block = fields.data_map.overflow_root } ∷ record { role = 8; block = fields.meta_map.bitmap_root } ∷ record { role = 10; block = fields.meta_map.overflow_root } ∷ [])
     all in

@@ -2,11 +2,12 @@ use Rattle.std.proofs.Common.{◌≡◌, ◌+◌, ◌-◌, ◌<◌, ◌≤◌, s
 use Rattle.std.proofs.lemmas.Option.{IfSome_then}
 use Rattle.pd_kinds.specs.Node.{is_inner_node, child_at}
 use Rattle.pd_kinds.specs.Graph.{block_at}
-use Rattle.pd_image.proofs.ReadLemmas.{only_reads_both}
-use Rattle.pd_tree.proofs.BelowLemmas.{read_found}
-use Rattle.pd_tree.proofs.NextLemmas.{if_any, if_both}
-use Rattle.pd_tree.proofs.LevelLemmas.{IsAtLevel, root_level, next_level}
-use Rattle.pd_tree.proofs.SeekLemmas.{Seeks, seeks_root, seeks_none, seeks_outside, seeks_child, seeks_leaf, seeks_nothing}
+use Rattle.pd_kinds.proofs.ResultLemmas.{if_any}
+use Rattle.pd_image.proofs.CrashLemmas.{only_reads_both}
+use Rattle.pd_tree.proofs.StackLemmas.{read_found}
+use Rattle.pd_tree.proofs.NextLemmas.{if_both}
+use Rattle.pd_tree.proofs.DistinctLemmas.{IsAtLevel, root_level, next_level}
+use Rattle.pd_tree.proofs.SearchLemmas.{Seeks, seeks_root, seeks_none, seeks_outside, seeks_child, seeks_leaf, seeks_nothing}
 use Rattle.pd_tree.proofs.seek.find.Goals as goal
 
 pub loop-level-init : goal.loop-level-init

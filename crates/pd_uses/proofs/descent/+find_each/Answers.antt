@@ -1,7 +1,7 @@
 use Rattle.std.proofs.Common.{◌∙◌, ◌-◌, [], IfSome, false, get_or, take, refl, subst}
 use Rattle.std.proofs.lemmas.List.{take_more}
-use Rattle.pd_image.proofs.ReadLemmas.{only_reads_both}
-use Rattle.pd_query.proofs.PutsLemmas.{each_told}
+use Rattle.pd_kinds.proofs.ResultLemmas.{if_any}
+use Rattle.pd_image.proofs.CrashLemmas.{only_reads_both}
 use Rattle.pd_uses.specs.declared.descent.Opened.{Opened}
 use Rattle.pd_uses.specs.Descent.{IsOpened}
 use Rattle.pd_uses.specs.FoundUses.{Finds, IsRight}
@@ -13,7 +13,7 @@ use Rattle.pd_uses.proofs.descent.+find_each.Goals.{in-Done, in-Inner+in_ok-here
 
 pub loop-b-init : goal.loop-b-init
 loop-b-init g t c = record {
-  finds = each_told (g.D.Device.state c.args.dev.now).held (λ image right. finds_nothing c.args.wanted.region image c.args.wanted.id (hits_each c.args.wanted.region image c.args.edges []) false (each_zero c.args.wanted.region image c.args.edges) right);
+  finds = if_any (g.D.Device.state c.args.dev.now).held (λ image right. finds_nothing c.args.wanted.region image c.args.wanted.id (hits_each c.args.wanted.region image c.args.edges []) false (each_zero c.args.wanted.region image c.args.edges) right);
   kept = record { held = refl; access = refl; path = refl; blocks = refl; history = refl };
   faults = refl;
 }

@@ -3,7 +3,7 @@ use Rattle.std.proofs.lemmas.Bool.{eqb-true}
 use Rattle.std.proofs.lemmas.List.{nil_from_length}
 use Rattle.pd_kinds.specs.Graph.{block_at}
 use Rattle.pd_kinds.specs.Node.{is_inner_node}
-use Rattle.pd_uses.specs.declared.found.Note.TheVariants.{Bare}
+use Rattle.pd_uses.specs.declared.found.HitNote.TheVariants.{Bare}
 use Rattle.pd_uses.specs.declared.hits.Hit.{Hit}
 use Rattle.pd_uses.specs.FoundUses.{Finds, HasLeaf}
 use Rattle.pd_uses.specs.Hits.{hits_in}

@@ -1,8 +1,8 @@
 use Rattle.std.proofs.Common.{◌∙◌, List, ap, filter}
-use Rattle.pd_thin_meaning.specs.declared.devices.DeviceRow.{DeviceRow}
-use Rattle.pd_thin_meaning.specs.Devices.{rows_left}
-use Rattle.pd_query.proofs.PutsLemmas.{one_told}
-use Rattle.pd_uses.specs.Ordered.{is_within}
+use Rattle.pd_meaning_thin.specs.declared.devices.DeviceRow.{DeviceRow}
+use Rattle.pd_meaning_thin.specs.Runs.{rows_left}
+use Rattle.pd_query.proofs.QueryLemmas.{one_told}
+use Rattle.pd_uses.specs.Uses.{is_within}
 use Rattle.pd_uses.specs.Uses.{rows_uses}
 use Rattle.pd_uses.proofs.FoundLemmas.{all_found, right_new}
 use Rattle.pd_uses.proofs.descent.find_region.Goals as goal

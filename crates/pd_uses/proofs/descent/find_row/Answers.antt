@@ -1,4 +1,4 @@
-use Rattle.pd_query.proofs.PutsLemmas.{one_told}
+use Rattle.pd_query.proofs.QueryLemmas.{one_told}
 use Rattle.pd_uses.proofs.FoundLemmas.{finds_row}
 use Rattle.pd_uses.proofs.descent.find_row.Goals as goal
 

@@ -1,9 +1,9 @@
 use Rattle.std.proofs.Common.{Some, None, IfSome, [], ◌∷◌, refl, ◌∙◌, subst}
-use Rattle.pd_image.proofs.ReadLemmas.{only_reads_both}
-use Rattle.pd_tree.specs.Next.{IsNext}
-use Rattle.pd_thin_meaning.specs.declared.devices.DeviceRow.{DeviceRow}
-use Rattle.pd_thin_meaning.specs.Devices.{rows_left}
-use Rattle.pd_query.proofs.PutsLemmas.{each_told, two_told}
+use Rattle.pd_kinds.proofs.ResultLemmas.{if_any, if_both}
+use Rattle.pd_image.proofs.CrashLemmas.{only_reads_both}
+use Rattle.pd_tree.specs.Stack.{IsNext}
+use Rattle.pd_meaning_thin.specs.declared.devices.DeviceRow.{DeviceRow}
+use Rattle.pd_meaning_thin.specs.Runs.{rows_left}
 use Rattle.pd_uses.specs.Descent.{FindsRows}
 use Rattle.pd_uses.specs.FoundUses.{IsRight}
 use Rattle.pd_uses.proofs.FoundLemmas.{rows_all, told_rows}
@@ -11,14 +11,14 @@ use Rattle.pd_uses.proofs.descent.find_rows.Goals as goal
 
 pub loop-row-init : goal.loop-row-init
 loop-row-init g c = record {
-  finds = each_told (g.D.Device.state c.args.dev.now).held (λ image right. record { right = right; uses = refl });
+  finds = if_any (g.D.Device.state c.args.dev.now).held (λ image right. record { right = right; uses = refl });
   kept = record { held = refl; access = refl; path = refl; blocks = refl; history = refl };
   faults = refl;
 }
 
 pub returns-in-None-clause-finds : goal.returns-in-None-clause-finds
 returns-in-None-clause-finds g c =
-    two_told (g.D.Device.state c.args.dev.now).held (λ image finds none right. rows_all c.args.region image (finds right) none.0) c.loop-row.invariant.finds
+    if_both (g.D.Device.state c.args.dev.now).held (λ image finds none right. rows_all c.args.region image (finds right) none.0) c.loop-row.invariant.finds
     (subst (λ o. IfSome o (λ image. IsNext {X = DeviceRow} None (rows_left image c.loop-row.devices) (rows_left image c.next.new.self))) c.loop-row.invariant.kept.held
     (rw c.in-None.is at c.in-Ok.ensures.next))
 

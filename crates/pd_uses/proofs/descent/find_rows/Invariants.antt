@@ -1,6 +1,6 @@
 use Rattle.std.proofs.Common.{◌≡◌, IfSome}
 use Rattle.pd_image.specs.Device.{OnlyReads}
-use Rattle.pd_thin_meaning.specs.Devices.{rows_left, rows_number}
+use Rattle.pd_meaning_thin.specs.Runs.{rows_left, rows_number}
 use Rattle.pd_uses.specs.FoundUses.{IsRight}
 use Rattle.pd_uses.proofs.FoundLemmas.{RowsSoFar}
 use Rattle.pd_uses.proofs.descent.find_rows.Given as goal

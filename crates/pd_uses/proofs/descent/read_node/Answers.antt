@@ -1,7 +1,7 @@
 use Rattle.std.proofs.Common.{◌≤◌, length, false, arith}
 use Rattle.std.proofs.lemmas.Option.{IfSome_then}
-use Rattle.pd_tree.proofs.BelowLemmas.{block_found}
-use Rattle.pd_query.proofs.PutsLemmas.{one_told}
+use Rattle.pd_tree.proofs.StackLemmas.{block_found}
+use Rattle.pd_query.proofs.QueryLemmas.{one_told}
 use Rattle.pd_uses.specs.Hits.{hits_below}
 use Rattle.pd_uses.proofs.FoundLemmas.{finds_nothing}
 use Rattle.pd_uses.proofs.HitLemmas.{below_outside}

@@ -1,9 +1,10 @@
 use Rattle.std.proofs.Common.{ap}
+use Rattle.pd_kinds.proofs.ResultLemmas.{if_any}
 use Rattle.pd_lines.specs.Printer.{printing}
-use Rattle.pd_thin_meaning.specs.Given.{super_rows}
-use Rattle.pd_query.specs.declared.fault.QueryFault.TheVariants.{Memory}
-use Rattle.pd_query.proofs.PutsLemmas.{each_told, lost_with, prints_none, prints_told}
-use Rattle.pd_uses.specs.UseLines.{tallied_rows}
+use Rattle.pd_meaning_thin.specs.Given.{super_rows}
+use Rattle.pd_query.specs.declared.query.QueryFault.TheVariants.{Memory}
+use Rattle.pd_query.proofs.QueryLemmas.{lost_with, prints_none, prints_told}
+use Rattle.pd_uses.specs.Uses.{tallied_rows}
 use Rattle.pd_uses.proofs.device_list.add_devices.Goals as goal
 
 pub returns-in_err-devices-clause-prints : goal.returns-in_err-devices-clause-prints
@@ -14,4 +15,4 @@ returns-in_err-devices-clause-prints g c =
 pub returns-clause-prints : goal.returns-clause-prints
 returns-clause-prints g c =
     let held = (g.D.Device.state c.args.dev.now).held in
-    prints_told held (each_told held (λ image. ap (tallied_rows c.args.exclusive.now) (c.in_ok-devices.ensures.rows image))) c.add_rows.ensures.prints
+    prints_told held (if_any held (λ image. ap (tallied_rows c.args.exclusive.now) (c.in_ok-devices.ensures.rows image))) c.add_rows.ensures.prints

@@ -1,6 +1,6 @@
 use Rattle.pd_lines.specs.Printer.{printing}
 use Rattle.pd_lines.proofs.Printing.{begun_first, begun_with, prints_then}
-use Rattle.pd_uses.specs.UseLines.{blocks_part, details_part}
+use Rattle.pd_uses.specs.Uses.{blocks_part, details_part}
 use Rattle.pd_uses.proofs.device_list.add_parts.Goals as goal
 
 pub returns-in_err-print_line-clause-prints : goal.returns-in_err-print_line-clause-prints

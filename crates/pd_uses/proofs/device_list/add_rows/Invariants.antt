@@ -1,9 +1,9 @@
 use Rattle.std.proofs.Common.{◌≡◌}
 use Rattle.pd_image.specs.Device.{OnlyReads}
 use Rattle.pd_lines.specs.Printer.{printing}
-use Rattle.pd_thin_meaning.specs.Devices.{rows_left, rows_number}
-use Rattle.pd_query.proofs.PutsLemmas.{PrintsSoFar}
-use Rattle.pd_uses.specs.UseLines.{tallied_rows}
+use Rattle.pd_meaning_thin.specs.Runs.{rows_left, rows_number}
+use Rattle.pd_query.proofs.QueryLemmas.{PrintsSoFar}
+use Rattle.pd_uses.specs.Uses.{tallied_rows}
 use Rattle.pd_uses.proofs.device_list.add_rows.Given as goal
 
 abbrev pub invariant-loop-row : goal.invariant-loop-row

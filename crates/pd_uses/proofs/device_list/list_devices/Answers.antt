@@ -2,9 +2,9 @@ use Rattle.std.proofs.Common.{refl, ◌∙◌}
 use Rattle.std.proofs.lemmas.Result.{err_from_is_err_and}
 use Rattle.pd_kinds.specs.Meaning.{thin_meaning}
 use Rattle.pd_answers.specs.QueryLines.{device_list_lines}
-use Rattle.pd_query.proofs.PutsLemmas.{one_told}
+use Rattle.pd_query.proofs.QueryLemmas.{one_told}
 use Rattle.pd_query.proofs.QueryLemmas.{puts_as, puts_none}
-use Rattle.pd_uses.proofs.SoundLemmas.{list_is}
+use Rattle.pd_uses.proofs.LineLemmas.{list_is}
 use Rattle.pd_uses.proofs.device_list.list_devices.Goals as goal
 
 pub returns-in_err-exclusive-clause-lines : goal.returns-in_err-exclusive-clause-lines

@@ -1,9 +1,9 @@
 use Rattle.std.proofs.Common.{rules, subst}
 use Rattle.pd_lines.specs.Printer.{printing}
-use Rattle.pd_query.specs.Puts.{PutsText}
-use Rattle.pd_query.proofs.PutsLemmas.{text_finished, text_stopped}
-use Rattle.pd_thin_meaning.specs.Given.{super_rows}
-use Rattle.pd_uses.specs.UseLines.{tallied_rows}
+use Rattle.pd_query.specs.Query.{PutsText}
+use Rattle.pd_query.proofs.QueryLemmas.{text_finished, text_stopped}
+use Rattle.pd_meaning_thin.specs.Given.{super_rows}
+use Rattle.pd_uses.specs.Uses.{tallied_rows}
 use Rattle.pd_uses.proofs.device_list.put_devices.Goals as goal
 
 pub returns-clause-text : goal.returns-clause-text

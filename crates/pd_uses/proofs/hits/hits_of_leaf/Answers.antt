@@ -1,7 +1,7 @@
 use Rattle.std.proofs.Common.{◌∙◌, ℕ, List, [], ◌∷◌, ◌++◌, filter, sym, ap, ap₂}
 use Rattle.pd_kinds.specs.Node.{key_at, value_at}
 use Rattle.pd_value.specs.declared.thin.BlockTime.{BlockTime}
-use Rattle.pd_thin_meaning.specs.Items.{block_time_of}
+use Rattle.pd_meaning_thin.specs.Runs.{block_time_of}
 use Rattle.pd_uses.specs.declared.hits.Hit.{Hit}
 use Rattle.pd_uses.specs.Hits.{is_hit}
 use Rattle.pd_uses.proofs.HitLemmas.{hits_more}

@@ -1,7 +1,7 @@
 use Rattle.std.proofs.Common.{◌≡◌, filter, map}
 use Rattle.std.specs.List.{range_with_len}
 use Rattle.pd_kinds.specs.Node.{key_at, value_at}
-use Rattle.pd_thin_meaning.specs.Items.{block_time_of}
+use Rattle.pd_meaning_thin.specs.Runs.{block_time_of}
 use Rattle.pd_uses.specs.Hits.{hit_of, is_hit}
 use Rattle.pd_uses.proofs.hits.hits_of_leaf.Given as goal
 

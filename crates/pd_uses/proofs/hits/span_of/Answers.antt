@@ -1,7 +1,7 @@
 use Rattle.std.proofs.Common.{get_or, take}
 use Rattle.std.proofs.lemmas.List.{take_more}
 use Rattle.pd_uses.specs.declared.hits.Hit.{Hit}
-use Rattle.pd_uses.proofs.PartLemmas.{span_more}
+use Rattle.pd_uses.proofs.HitLemmas.{span_more}
 use Rattle.pd_uses.proofs.hits.span_of.Goals as goal
 
 pub loop-hit-preserved : goal.loop-hit-preserved

@@ -1,10 +1,11 @@
 use Rattle.std.proofs.Common.{ℕ, ◌++◌, ◌-◌, ◌∙◌, IfSome, refl, subst}
 use Rattle.std.proofs.lemmas.Option.{IfSome_then}
-use Rattle.pd_image.proofs.ReadLemmas.{only_reads_both}
+use Rattle.pd_kinds.proofs.ResultLemmas.{if_both}
+use Rattle.pd_image.proofs.CrashLemmas.{only_reads_both}
 use Rattle.pd_tree.specs.Below.{items_below, nodes_below}
 use Rattle.pd_tree.specs.Stack.{stack_items, stack_nodes}
-use Rattle.pd_thin_meaning.specs.Items.{block_time_of}
-use Rattle.pd_query.proofs.PutsLemmas.{one_told, two_told}
+use Rattle.pd_meaning_thin.specs.Runs.{block_time_of}
+use Rattle.pd_query.proofs.QueryLemmas.{one_told}
 use Rattle.pd_uses.specs.declared.tallies.Tallies.{Tallies}
 use Rattle.pd_uses.specs.ListWalk.{Walks, told_of}
 use Rattle.pd_uses.proofs.ListWalkLemmas.{walks_both, walks_down, walks_ended, walks_given}
@@ -20,7 +21,7 @@ loop-stack-preserved-in-Continue-1 g c =
     (told_of id (stack_items 8 block_time_of image c.go_to.new.stack)) c.loop-stack.meets c.go_to.new.meets tallies tallies))
     so_far.kept.held c.in_ok-go_to-in-Child.ensures.walks in
     record {
-      walks = two_told (g.D.Device.state c.args.dev.now).held
+      walks = if_both (g.D.Device.state c.args.dev.now).held
           (λ image before goes.
           walks_both before
           (walks_down image c.args.id c.in-Child.b c.loop-stack.stack c.step.new.self (stack_nodes 8 image c.go_to.new.stack) (told_of c.args.id (stack_items 8 block_time_of image c.go_to.new.stack))

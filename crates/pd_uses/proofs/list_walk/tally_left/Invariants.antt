@@ -1,7 +1,7 @@
 use Rattle.std.proofs.Common.{◌≡◌, IfSome}
 use Rattle.pd_image.specs.Device.{OnlyReads}
 use Rattle.pd_tree.specs.Stack.{stack_items, stack_nodes, stack_number}
-use Rattle.pd_thin_meaning.specs.Items.{block_time_of}
+use Rattle.pd_meaning_thin.specs.Runs.{block_time_of}
 use Rattle.pd_uses.specs.ListWalk.{Walks, told_of}
 use Rattle.pd_uses.proofs.list_walk.tally_left.Given as goal
 

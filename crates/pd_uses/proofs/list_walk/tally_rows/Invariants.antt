@@ -1,6 +1,6 @@
 use Rattle.std.proofs.Common.{◌≡◌, IfSome}
 use Rattle.pd_image.specs.Device.{OnlyReads}
-use Rattle.pd_thin_meaning.specs.Devices.{rows_left, rows_number}
+use Rattle.pd_meaning_thin.specs.Runs.{rows_left, rows_number}
 use Rattle.pd_uses.specs.ListWalk.{WalksRows}
 use Rattle.pd_uses.proofs.list_walk.tally_rows.Given as goal
 

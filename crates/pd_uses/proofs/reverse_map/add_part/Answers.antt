@@ -1,8 +1,8 @@
 use Rattle.pd_lines.specs.Printer.{printing}
 use Rattle.pd_lines.proofs.Printing.{begun_none, begun_with}
 use Rattle.pd_uses.specs.FoundUses.{found_uses}
-use Rattle.pd_uses.specs.Ordered.{ordered_uses}
-use Rattle.pd_uses.specs.UseLines.{uses_text}
+use Rattle.pd_uses.specs.Uses.{ordered_uses}
+use Rattle.pd_uses.specs.Uses.{uses_text}
 use Rattle.pd_uses.proofs.reverse_map.add_part.Goals as goal
 
 pub returns-in_err-uses-clause-prints : goal.returns-in_err-uses-clause-prints

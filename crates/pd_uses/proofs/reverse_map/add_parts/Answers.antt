@@ -2,10 +2,10 @@ use Rattle.std.proofs.Common.{◌∙◌, [], sym, ap, refl, arith}
 use Rattle.pd_lines.specs.Printer.{printing}
 use Rattle.pd_lines.proofs.Printing.{begun_with, printed_none}
 use Rattle.pd_uses.specs.FoundUses.{found_uses}
-use Rattle.pd_uses.specs.Ordered.{ordered_uses}
-use Rattle.pd_uses.specs.UseLines.{uses_text}
+use Rattle.pd_uses.specs.Uses.{ordered_uses}
+use Rattle.pd_uses.specs.Uses.{uses_text}
 use Rattle.pd_uses.proofs.LineLemmas.{lines_end, lines_lost, lines_more, text_parts}
-use Rattle.pd_uses.proofs.OrderLemmas.{same_end}
+use Rattle.pd_uses.proofs.LineLemmas.{same_end}
 use Rattle.pd_uses.proofs.reverse_map.add_parts.Goals as goal
 
 pub loop-cut-init : goal.loop-cut-init

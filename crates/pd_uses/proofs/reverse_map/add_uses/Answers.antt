@@ -1,6 +1,6 @@
 use Rattle.std.proofs.Common.{◌∙◌}
 use Rattle.pd_lines.proofs.Printing.{begun_with, printed_both}
-use Rattle.pd_uses.specs.declared.data_use.DataUse.{DataUse}
+use Rattle.pd_uses.specs.declared.hits.DataUse.{DataUse}
 use Rattle.pd_uses.proofs.LineLemmas.{text_so_far, uses_lost}
 use Rattle.pd_uses.proofs.reverse_map.add_uses.Goals as goal
 

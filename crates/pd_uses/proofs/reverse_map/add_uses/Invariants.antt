@@ -1,7 +1,7 @@
 use Rattle.std.proofs.Common.{◌≡◌, take}
 use Rattle.pd_lines.specs.Printer.{printing}
 use Rattle.pd_lines.specs.Printing.{Printed}
-use Rattle.pd_uses.specs.UseLines.{uses_text}
+use Rattle.pd_uses.specs.Uses.{uses_text}
 use Rattle.pd_uses.proofs.reverse_map.add_uses.Given as goal
 
 abbrev pub invariant-loop-one : goal.invariant-loop-one

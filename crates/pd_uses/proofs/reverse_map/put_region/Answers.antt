@@ -1,10 +1,10 @@
 use Rattle.std.proofs.Common.{OnOk, rules, subst}
 use Rattle.pd_kinds.specs.Objects.{Appends, AppendsFront}
 use Rattle.pd_lines.proofs.Printing.{all_begun, all_lost}
-use Rattle.pd_query.proofs.PutsLemmas.{put_all}
+use Rattle.pd_query.proofs.QueryLemmas.{put_all}
 use Rattle.pd_uses.specs.FoundUses.{found_uses}
-use Rattle.pd_uses.specs.Ordered.{ordered_uses}
-use Rattle.pd_uses.specs.UseLines.{uses_text}
+use Rattle.pd_uses.specs.Uses.{ordered_uses}
+use Rattle.pd_uses.specs.Uses.{uses_text}
 use Rattle.pd_uses.proofs.reverse_map.put_region.Goals as goal
 
 pub returns-clause-whole : goal.returns-clause-whole

@@ -2,15 +2,15 @@ use Rattle.std.proofs.Common.{List, refl, ◌∙◌, ap}
 use Rattle.std.proofs.lemmas.Result.{err_from_is_err_and}
 use Rattle.pd_kinds.specs.Meaning.{thin_meaning}
 use Rattle.pd_answers.specs.QueryLines.{rmap_lines}
-use Rattle.pd_query.proofs.PutsLemmas.{one_told}
+use Rattle.pd_query.proofs.QueryLemmas.{one_told}
 use Rattle.pd_query.proofs.QueryLemmas.{puts_none}
-use Rattle.pd_uses.specs.declared.data_use.DataUse.{DataUse}
+use Rattle.pd_uses.specs.declared.hits.DataUse.{DataUse}
 use Rattle.pd_uses.specs.FoundUses.{found_uses}
-use Rattle.pd_uses.specs.Ordered.{ordered_uses}
-use Rattle.pd_uses.specs.UseLines.{uses_text}
+use Rattle.pd_uses.specs.Uses.{ordered_uses}
+use Rattle.pd_uses.specs.Uses.{uses_text}
 use Rattle.pd_uses.specs.Uses.{super_uses}
-use Rattle.pd_uses.proofs.OrderLemmas.{region_kept}
-use Rattle.pd_uses.proofs.SoundLemmas.{rmap_is}
+use Rattle.pd_uses.proofs.LineLemmas.{region_kept}
+use Rattle.pd_uses.proofs.LineLemmas.{rmap_is}
 use Rattle.pd_uses.proofs.reverse_map.rmap.Goals as goal
 
 pub returns-in_err-found-clause-lines : goal.returns-in_err-found-clause-lines

@@ -1,4 +1,4 @@
-use Rattle.pd_writeback.proofs.CopyLemmas.{write_leaves}
+use Rattle.pd_writeback.proofs.OverlaidLemmas.{write_leaves}
 use Rattle.pd_writeback.proofs.copying.copy_block.Goals as goal
 
 pub returns-in-Ok-write-clause-crash : goal.returns-in-Ok-write-clause-crash

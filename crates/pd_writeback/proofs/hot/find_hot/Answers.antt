@@ -1,4 +1,4 @@
-use Rattle.pd_tree.proofs.NextLemmas.{if_any}
+use Rattle.pd_kinds.proofs.ResultLemmas.{if_any}
 use Rattle.pd_writeback.proofs.hot.find_hot.Goals as goal
 
 pub gather-requires-clause-knows : goal.gather-requires-clause-knows

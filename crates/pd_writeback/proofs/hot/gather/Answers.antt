@@ -1,12 +1,12 @@
 use Rattle.std.proofs.Common.{List, ◌++◌, IfSome, Some, None, ap, sym, ◌∙◌, subst}
-use Rattle.pd_image.proofs.ReadLemmas.{only_reads_both}
-use Rattle.pd_tree.specs.Next.{IsNext}
+use Rattle.pd_image.proofs.CrashLemmas.{only_reads_both}
+use Rattle.pd_tree.specs.Stack.{IsNext}
 use Rattle.pd_tree.proofs.NextLemmas.{if_both}
-use Rattle.pd_answers.specs.CachedView.{CachedBlock}
-use Rattle.pd_cache_meaning.specs.declared.row.CacheRow.{CacheRow}
-use Rattle.pd_cache_meaning.specs.RowsAhead.{Knows, rows_ahead}
-use Rattle.pd_writeback.specs.Hot.{hot_rows}
-use Rattle.pd_writeback.proofs.HotLemmas.{hot_last, hot_next}
+use Rattle.pd_answers.specs.Writebacks.{CachedBlock}
+use Rattle.pd_meaning_cache.specs.declared.cache_rows.CacheRow.{CacheRow}
+use Rattle.pd_meaning_cache.specs.Sides.{Knows, rows_ahead}
+use Rattle.pd_writeback.specs.Plan.{hot_rows}
+use Rattle.pd_writeback.proofs.PlanLemmas.{hot_last, hot_next}
 use Rattle.pd_writeback.proofs.hot.gather.Goals as goal
 
 pub next-requires-clause-knows : goal.next-requires-clause-knows

@@ -1,7 +1,7 @@
 use Rattle.std.proofs.Common.{◌≡◌, ◌++◌, IfSome}
 use Rattle.pd_image.specs.Device.{OnlyReads}
-use Rattle.pd_cache_meaning.specs.RowsAhead.{Knows, rows_ahead, rows_ahead_number}
-use Rattle.pd_writeback.specs.Hot.{cached_all, hot_rows}
+use Rattle.pd_meaning_cache.specs.Sides.{Knows, rows_ahead, rows_ahead_number}
+use Rattle.pd_writeback.specs.Plan.{cached_all, hot_rows}
 use Rattle.pd_writeback.proofs.hot.gather.Given as goal
 
 -- the hot ones so far, and those that are left

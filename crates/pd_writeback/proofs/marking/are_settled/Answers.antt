@@ -1,12 +1,12 @@
-use Rattle.std.proofs.Common.{◌≡◌, ℕ, ◌<◌, true, false, get_or, sym, ◌∙◌, arith, rules}
+use Rattle.std.proofs.Common.{◌≡◌, true, false, get_or, sym, ◌∙◌, arith, rules}
 use Rattle.std.proofs.lemmas.Bool.Decides.{nat_tests}
 use Rattle.std.proofs.lemmas.List.Folds.{list_all_at}
 use Rattle.std.proofs.lemmas.Option.{IfSome_then}
 use Rattle.pd_kinds.specs.Graph.{block_at}
-use Rattle.pd_image.proofs.ReadLemmas.{only_reads_both}
-use Rattle.pd_tree.proofs.BelowLemmas.{read_found}
+use Rattle.pd_image.proofs.CrashLemmas.{only_reads_both}
+use Rattle.pd_tree.proofs.StackLemmas.{read_found}
 use Rattle.pd_tree.proofs.NextLemmas.{if_both}
-use Rattle.pd_writeback.specs.Marked.{is_block_settled}
+use Rattle.pd_writeback.specs.Copied.{is_block_settled}
 use Rattle.pd_writeback.proofs.UnchangedLemmas.{all_if, so_far}
 use Rattle.pd_writeback.proofs.marking.are_settled.Goals as goal
 

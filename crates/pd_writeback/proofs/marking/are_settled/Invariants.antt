@@ -1,7 +1,7 @@
 use Rattle.std.proofs.Common.{◌≡◌, ◌<◌, ℕ, true, get_or, IfSome}
 use Rattle.pd_kinds.specs.Graph.{block_at}
 use Rattle.pd_image.specs.Device.{OnlyReads}
-use Rattle.pd_writeback.specs.Marked.{is_block_settled}
+use Rattle.pd_writeback.specs.Copied.{is_block_settled}
 use Rattle.pd_writeback.proofs.marking.are_settled.Given as goal
 
 -- the blocks so far say that nothing is dirty

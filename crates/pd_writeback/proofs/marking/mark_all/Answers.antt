@@ -1,5 +1,5 @@
 use Rattle.std.proofs.Common.{refl, ◌∙◌}
-use Rattle.pd_draft.proofs.StaysLemmas.{closed_start, closed_then}
+use Rattle.pd_draft.proofs.DraftLemmas.{closed_start, closed_then}
 use Rattle.pd_writeback.proofs.MarkedLemmas.{marked_more, marked_none}
 use Rattle.pd_writeback.proofs.marking.mark_all.Goals as goal
 

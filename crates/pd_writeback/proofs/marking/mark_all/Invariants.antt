@@ -1,6 +1,6 @@
 use Rattle.std.proofs.Common.{◌≡◌, IfSome, Some, take}
 use Rattle.pd_draft.specs.Closed.{StaysClosed}
-use Rattle.pd_writeback.specs.Marked.{marked}
+use Rattle.pd_writeback.specs.Copied.{marked}
 use Rattle.pd_writeback.proofs.marking.mark_all.Given as goal
 
 -- so many places were marked

@@ -1,7 +1,7 @@
 use Rattle.std.proofs.Common.{rules, set, ap, subst, Some, ◌≡◌}
 use Rattle.pd_kinds.specs.Objects.{DeviceState}
 use Rattle.pd_kinds.specs.Crash.{IsNoneOrNew, LeavesOnly}
-use Rattle.pd_writeback.specs.Marked.{marked}
+use Rattle.pd_writeback.specs.Copied.{marked}
 use Rattle.pd_writeback.proofs.MarkedLemmas.{closed_marking, committed_marking}
 use Rattle.pd_writeback.proofs.marking.mark_closed.Goals as goal
 

@@ -1,10 +1,10 @@
 use Rattle.std.proofs.Common.{◌≡◌, List, ℕ, IfSome, Some, Option, set, sym, ap, ◌∙◌, subst}
 use Rattle.std.proofs.lemmas.Result.{on_ok_weaker}
-use Rattle.pd_answers.specs.CachedView.{settled_block}
-use Rattle.pd_tree.proofs.BelowLemmas.{block_found}
+use Rattle.pd_answers.specs.Writebacks.{settled_block}
+use Rattle.pd_tree.proofs.StackLemmas.{block_found}
 use Rattle.pd_tree.proofs.NextLemmas.{if_both}
 use Rattle.pd_writeback.proofs.MarkedLemmas.{unmarked}
-use Rattle.pd_writeback.proofs.SettleLemmas.{settled_is, settled_not}
+use Rattle.pd_writeback.proofs.UnchangedLemmas.{settled_is, settled_not}
 use Rattle.pd_writeback.proofs.marking.mark_one.Goals as goal
 
 pub returns-then-is_settled-clause-content : goal.returns-then-is_settled-clause-content

@@ -2,7 +2,7 @@ use Rattle.std.proofs.Common.{set, Some, ◌≡◌, List, ℕ}
 use Rattle.std.proofs.lemmas.Result.{on_ok_weaker}
 use Rattle.pd_kinds.specs.Field.{zeros}
 use Rattle.pd_image.proofs.CrashLemmas.{at_some}
-use Rattle.pd_writeback.specs.Marked.{marked_image}
+use Rattle.pd_writeback.specs.Copied.{marked_image}
 use Rattle.pd_writeback.proofs.MarkedLemmas.{done_marking, whole_marking}
 use Rattle.pd_writeback.proofs.marking.mark_places.Goals as goal
 

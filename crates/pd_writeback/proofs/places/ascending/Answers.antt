@@ -1,6 +1,6 @@
 use Rattle.std.proofs.Common.{◌∙◌, ap, sym, arith, ℕ, ◌++◌, List, cond, [], ◌∷◌, false, get_or, filter, ◌≡◌, length}
 use Rattle.std.specs.List.{range_with_len}
-use Rattle.pd_writeback.specs.Places.{seen_places}
+use Rattle.pd_writeback.specs.Room.{seen_places}
 use Rattle.pd_writeback.proofs.PlacesLemmas.{filter_more}
 use Rattle.pd_writeback.proofs.places.ascending.Goals as goal
 

@@ -1,5 +1,5 @@
 use Rattle.std.proofs.Common.{List, ℕ, ap, subst, sym, ◌∙◌}
-use Rattle.pd_writeback.specs.Places.{ArePlaces, seen_places}
+use Rattle.pd_writeback.specs.Room.{ArePlaces, seen_places}
 use Rattle.pd_writeback.proofs.PlacesLemmas.{seen_are_places}
 use Rattle.pd_writeback.proofs.places.find_places.Goals as goal
 

@@ -1,12 +1,13 @@
 use Rattle.std.proofs.Common.{◌≡◌, ℕ, List, Bool, ◌∷◌, IfSome, None, ap, ◌∙◌, subst}
-use Rattle.pd_image.proofs.ReadLemmas.{only_reads_both}
+use Rattle.pd_kinds.proofs.ResultLemmas.{none_of}
+use Rattle.pd_image.proofs.CrashLemmas.{only_reads_both}
 use Rattle.pd_value.specs.declared.thin.Root.{Root}
 use Rattle.pd_tree.specs.Cursor.{cursor_items}
-use Rattle.pd_tree.specs.Items.{root_of}
-use Rattle.pd_tree.specs.Next.{IsNext}
+use Rattle.pd_tree.specs.Cursor.{root_of}
+use Rattle.pd_tree.specs.Stack.{IsNext}
 use Rattle.pd_tree.proofs.NextLemmas.{if_both}
-use Rattle.pd_writeback.specs.Places.{marks, names}
-use Rattle.pd_writeback.proofs.PlacesLemmas.{marks_next, marks_last, none_of}
+use Rattle.pd_writeback.specs.Room.{marks, names}
+use Rattle.pd_writeback.proofs.PlacesLemmas.{marks_next, marks_last}
 use Rattle.pd_writeback.proofs.places.mark_named.Goals as goal
 
 pub loop-named-preserved : goal.loop-named-preserved

@@ -2,7 +2,7 @@ use Rattle.std.proofs.Common.{◌≡◌, false, IfSome}
 use Rattle.std.specs.Prelude.{slice_index_or}
 use Rattle.pd_image.specs.Device.{OnlyReads}
 use Rattle.pd_tree.specs.Cursor.{cursor_number}
-use Rattle.pd_writeback.specs.Places.{marks, names_left}
+use Rattle.pd_writeback.specs.Room.{marks, names_left}
 use Rattle.pd_writeback.proofs.places.mark_named.Given as goal
 
 -- what is left to be marked gives the same as all

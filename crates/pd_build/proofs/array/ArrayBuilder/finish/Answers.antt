@@ -1,7 +1,7 @@
 use Rattle.std.proofs.Common.{◌∙◌, ◌≤◌, ℕ, List, sym, arith, subst}
 use Rattle.pd_kinds.specs.Array.{max_words}
 use Rattle.pd_array.specs.Word.{size_of}
-use Rattle.pd_draft.specs.Placed.{Wrote}
+use Rattle.pd_draft.specs.Closed.{Wrote}
 use Rattle.pd_draft.specs.DraftState.{draft_state}
 use Rattle.pd_build.proofs.TreeLemmas.{on_ok, on_ok_value}
 use Rattle.pd_build.proofs.ArrayLemmas.{array_done, root_done, done_number}

@@ -1,7 +1,7 @@
 use Rattle.std.proofs.Common.{◌≡◌, ◌+◌, ◌-◌, ◌∷◌, ◌++◌, ℕ, List, [], length, refl, ◌∙◌, ap, arith, subst, ◌⊎◌, inl, inr, ⊎_elim}
 use Rattle.pd_kinds.specs.Array.{array_block, max_words}
 use Rattle.pd_array.specs.Word.{size_of}
-use Rattle.pd_draft.specs.Placed.{Wrote}
+use Rattle.pd_draft.specs.Closed.{Wrote}
 use Rattle.pd_draft.specs.DraftState.{draft_state}
 use Rattle.pd_build.proofs.TreeLemmas.{on_ok}
 use Rattle.pd_build.proofs.ArrayLemmas.{push_none, push_end, array_some}

@@ -1,8 +1,9 @@
 use Rattle.std.proofs.Common.{◌≡◌, ◌∷◌, ℕ, List, [], length, refl, sym, ◌∙◌, ap, arith, subst}
 use Rattle.pd_kinds.specs.Node.{Entry, is_ascending, leaf_block}
-use Rattle.pd_draft.specs.Placed.{Wrote}
+use Rattle.pd_kinds.proofs.KindLemmas.{asc_left}
+use Rattle.pd_kinds.specs.Trees.{keys_of}
+use Rattle.pd_draft.specs.Closed.{Wrote}
 use Rattle.pd_draft.specs.DraftState.{draft_state}
-use Rattle.pd_build.proofs.OrderLemmas.{keys, asc_left}
 use Rattle.std.proofs.lemmas.List.{map-append}
 use Rattle.pd_build.specs.Tree.{TreeLeft, blocks_left, number_left}
 use Rattle.pd_build.proofs.TreeLemmas.{none_is, some_is, empty_blocks, empty_root, empty_number, done_blocks, done_root, done_number, on_ok, on_ok_value}
@@ -38,7 +39,7 @@ returns-then-is_empty-clause-root g c =
 
 pub finish-requires-clause-ascend : goal.finish-requires-clause-ascend
 finish-requires-clause-ascend g c =
-    asc_left (keys c.self.inside.upper) (keys c.self.inside.leaves.begun)
+    asc_left (keys_of c.self.inside.upper) (keys_of c.self.inside.leaves.begun)
     (rw (map-append (λ (e : Entry). e.key) c.self.inside.upper c.self.inside.leaves.begun) at c.self.invariant.ascending)
 
 pub finish-requires-clause-room : goal.finish-requires-clause-room

@@ -1,4 +1,4 @@
-use Rattle.pd_build.proofs.CountLemmas.{room_some}
+use Rattle.pd_kinds.proofs.KindLemmas.{room_some}
 use Rattle.pd_build.proofs.TreeLemmas.{order_start, start_blocks, start_tree, start_root, start_number}
 use Rattle.pd_build.proofs.build.Builder.new.Goals as goal
 

@@ -1,14 +1,14 @@
 use Rattle.std.proofs.Common.{◌≡◌, ◌≤◌, ◌+◌, ◌-◌, ◌∷◌, [], ℕ, zero, suc, List, refl, sym, subst, ◌∙◌, ap, arith}
 use Rattle.pd_kinds.specs.Node.{Entry, key_at, leaf_block, max_entries}
-use Rattle.pd_draft.specs.Placed.{Wrote}
+use Rattle.pd_draft.specs.Closed.{Wrote}
 use Rattle.pd_draft.specs.DraftState.{draft_state}
-use Rattle.pd_laid.specs.Tree.{first_key}
-use Rattle.pd_spells.specs.Need.{nodes_for}
-use Rattle.pd_node.specs.OpenLeaf.{HasMore, IsBegun, entries_in}
-use Rattle.pd_build.specs.Leaves.{LeavesLeft, AreCounts, low_of, low_after}
-use Rattle.pd_build.specs.Parts.{even_sizes}
+use Rattle.pd_laid.specs.Laid.{first_key}
+use Rattle.pd_grammar.specs.Need.{nodes_for}
+use Rattle.pd_node.specs.Items.{HasMore, IsBegun, entries_in}
+use Rattle.pd_build.specs.Tree.{LeavesLeft, AreCounts, low_of, low_after}
+use Rattle.pd_build.specs.Tree.{even_sizes}
 use Rattle.pd_node.proofs.Begun.{length-entries_in}
-use Rattle.pd_build.proofs.CountLemmas.{counts_end, IsEndOf, end_of}
+use Rattle.pd_build.proofs.TakesLemmas.{counts_end, IsEndOf, end_of}
 use Rattle.pd_build.proofs.TakesLemmas.{takes_one, some_left, first_is}
 use Rattle.pd_build.proofs.leaves.LeafBuilder.end_leaf.Goals.{After-self, After-put_entry}
 use Rattle.pd_build.proofs.leaves.LeafBuilder.end_leaf.Goals as goal

@@ -1,10 +1,10 @@
 use Rattle.std.proofs.Common.{◌≤◌, ◌+◌, refl, sym, ◌∙◌, ap, arith}
 use Rattle.pd_kinds.specs.Node.{Entry, max_entries}
-use Rattle.pd_node.specs.OpenLeaf.{HasMore, entries_in}
-use Rattle.pd_build.specs.Leaves.{LeavesLeft, low_of, low_after}
-use Rattle.pd_build.specs.Parts.{even_sizes}
+use Rattle.pd_node.specs.Items.{HasMore, entries_in}
+use Rattle.pd_build.specs.Tree.{LeavesLeft, low_of, low_after}
+use Rattle.pd_build.specs.Tree.{even_sizes}
 use Rattle.pd_node.proofs.Begun.{length-entries_in}
-use Rattle.pd_build.proofs.CountLemmas.{counts_next, end_of}
+use Rattle.pd_build.proofs.TakesLemmas.{counts_next, end_of}
 use Rattle.pd_build.proofs.OrderLemmas.{low_after-last}
 use Rattle.pd_build.proofs.TakesLemmas.{takes_none, some_left, first_is}
 use Rattle.pd_build.proofs.leaves.LeafBuilder.hold.Goals.{After-self, After-put_entry}

@@ -1,8 +1,9 @@
 use Rattle.std.proofs.Common.{◌≡◌, ◌≤◌, ℕ, [], refl, ◌∙◌, ap, arith}
 use Rattle.pd_kinds.specs.Node.{max_entries}
-use Rattle.pd_spells.specs.Need.{nodes_for}
-use Rattle.pd_build.specs.Parts.{even_sizes}
-use Rattle.pd_build.proofs.CountLemmas.{room_some, parts_some}
+use Rattle.pd_kinds.proofs.KindLemmas.{room_some}
+use Rattle.pd_grammar.specs.Need.{nodes_for}
+use Rattle.pd_build.specs.Tree.{even_sizes}
+use Rattle.pd_build.proofs.TakesLemmas.{parts_some}
 use Rattle.pd_build.proofs.TakesLemmas.{start_items, start_leaves, started, none_then}
 use Rattle.pd_build.proofs.PartLemmas.{length-even}
 use Rattle.pd_build.proofs.leaves.LeafBuilder.new.Goals as goal

@@ -1,10 +1,10 @@
 use Rattle.std.proofs.Common.{◌≡◌, ◌≤◌, ◌<◌, ◌^◌, List, length, take, drop, ◌++◌, refl, sym, ◌∙◌, ap, arith, subst}
 use Rattle.pd_kinds.specs.Node.{Entry, inner_block}
-use Rattle.pd_draft.specs.Placed.{Wrote}
+use Rattle.pd_draft.specs.Closed.{Wrote}
 use Rattle.pd_draft.specs.DraftState.{draft_state}
-use Rattle.pd_laid.specs.Tree.{even_parts, heads, blocks_from}
-use Rattle.pd_spells.specs.Need.{nodes_for, need_above}
-use Rattle.pd_build.specs.Rows.{link_entries}
+use Rattle.pd_laid.specs.Laid.{even_parts, heads, blocks_from}
+use Rattle.pd_grammar.specs.Need.{nodes_for, need_above}
+use Rattle.pd_build.specs.Tree.{link_entries}
 use Rattle.pd_build.proofs.UpperLemmas.{length-links, keys-links, rising_start, rising_next, rising_room, rising_end, lent_whole}
 use Rattle.pd_build.proofs.upper.UpperBuilder.finish.Goals as goal
 

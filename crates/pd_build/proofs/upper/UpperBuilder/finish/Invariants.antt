@@ -1,6 +1,6 @@
 use Rattle.std.proofs.Common.{◌≡◌, length}
 use Rattle.pd_draft.specs.DraftState.{draft_state}
-use Rattle.pd_build.specs.Rows.{link_entries}
+use Rattle.pd_build.specs.Tree.{link_entries}
 use Rattle.pd_build.proofs.UpperLemmas.{IsRising}
 use Rattle.pd_build.proofs.upper.UpperBuilder.finish.Given as goal
 

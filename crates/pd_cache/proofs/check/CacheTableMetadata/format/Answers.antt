@@ -1,8 +1,8 @@
 use Rattle.std.proofs.Common.{◌∙◌}
 use Rattle.pd_kinds.specs.Layout.{graph_of}
 use Rattle.pd_kinds.specs.CacheFormat.{cache_graph}
-use Rattle.pd_laws.proofs.CacheTable.{super_sound}
-use Rattle.pd_cache.proofs.ReadyLemmas.{graph_is}
+use Rattle.pd_kinds.proofs.CacheTable.{super_sound}
+use Rattle.pd_cache.proofs.WholeLemmas.{graph_is}
 use Rattle.pd_cache.proofs.check.CacheTableMetadata.format.Goals as goal
 
 pub of-requires-clause-some : goal.of-requires-clause-some

@@ -1,5 +1,5 @@
 use Rattle.std.proofs.Common.{◌+◌, ◌∙◌, sym, ap, arith}
-use Rattle.pd_count.specs.Forms.{form_numbers}
+use Rattle.pd_count.specs.Counted.{form_numbers}
 use Rattle.pd_count.proofs.FormLemmas.{shown_dense, shown_few}
 use Rattle.pd_count.proofs.chunk.Chunk.are_all.Goals as goal
 

@@ -1,5 +1,5 @@
 use Rattle.std.proofs.Common.{◌∙◌, sym, ap}
-use Rattle.pd_count.specs.Forms.{digits_number, entered, form_numbers}
+use Rattle.pd_count.specs.Counted.{digits_number, entered, form_numbers}
 use Rattle.pd_count.proofs.FormLemmas.{copied, shown_dense, shown_few}
 use Rattle.pd_count.proofs.chunk.Chunk.copy.Goals as goal
 

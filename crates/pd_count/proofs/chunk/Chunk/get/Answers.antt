@@ -1,5 +1,5 @@
 use Rattle.std.proofs.Common.{◌∙◌, sym, ap, List, ℕ, arith}
-use Rattle.pd_count.specs.Forms.{form_numbers}
+use Rattle.pd_count.specs.Counted.{form_numbers}
 use Rattle.std.proofs.Common.{get_or}
 use Rattle.pd_count.proofs.FormLemmas.{form_past, shown_dense, shown_few}
 use Rattle.pd_count.proofs.chunk.Chunk.get.Goals as goal

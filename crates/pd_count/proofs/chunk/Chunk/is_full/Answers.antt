@@ -1,6 +1,6 @@
 use Rattle.std.proofs.Common.{◌≡◌, ◌≤◌, ◌∙◌, sym, ap, ℕ, length, arith}
 use Rattle.std.proofs.lemmas.Bool.{leb-true}
-use Rattle.pd_count.specs.Forms.{few_numbers, form_numbers}
+use Rattle.pd_count.specs.Counted.{few_numbers, form_numbers}
 use Rattle.pd_count.proofs.FormLemmas.{few_size}
 use Rattle.pd_count.proofs.chunk.Chunk.is_full.Goals as goal
 

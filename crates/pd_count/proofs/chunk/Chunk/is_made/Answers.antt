@@ -1,5 +1,5 @@
 use Rattle.std.proofs.Common.{◌≡◌, ◌∙◌, sym, ap, ℕ, length, arith}
-use Rattle.pd_count.specs.Forms.{digits_number, few_numbers, form_numbers, numbers_by}
+use Rattle.pd_count.specs.Counted.{digits_number, few_numbers, form_numbers, numbers_by}
 use Rattle.pd_count.proofs.FormLemmas.{few_size, size_by, some_there}
 use Rattle.pd_count.proofs.chunk.Chunk.is_made.Goals as goal
 

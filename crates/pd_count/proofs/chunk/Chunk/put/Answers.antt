@@ -1,5 +1,5 @@
 use Rattle.std.proofs.Common.{◌∙◌, sym, ap, refl}
-use Rattle.pd_count.specs.Forms.{digits_number, entered, form_numbers}
+use Rattle.pd_count.specs.Counted.{digits_number, entered, form_numbers}
 use Rattle.pd_count.specs.contracts.chunk.Chunk.{the_view}
 use Rattle.pd_count.proofs.FormLemmas.{puts_on_ok, shown_dense, shown_few}
 use Rattle.pd_count.proofs.chunk.Chunk.put.Goals as goal

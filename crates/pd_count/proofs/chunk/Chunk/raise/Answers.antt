@@ -1,7 +1,7 @@
 use Rattle.std.proofs.Common.{◌∙◌, sym, ap, ℕ, length}
 use mathlib.Core.Bool.{false≢true}
 use Rattle.std.proofs.lemmas.List.{with_items_is}
-use Rattle.pd_count.specs.Forms.{digits_number, form_numbers}
+use Rattle.pd_count.specs.Counted.{digits_number, form_numbers}
 use Rattle.pd_count.specs.contracts.chunk.Chunk.{the_view}
 use Rattle.pd_count.proofs.FormLemmas.{raised_shown, shown_dense}
 use Rattle.pd_count.proofs.chunk.Chunk.raise.Goals as goal

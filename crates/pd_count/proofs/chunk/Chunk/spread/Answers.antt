@@ -1,5 +1,5 @@
 use Rattle.std.proofs.Common.{◌∙◌, sym, ap}
-use Rattle.pd_count.specs.Forms.{digits_number, entered, form_numbers}
+use Rattle.pd_count.specs.Counted.{digits_number, entered, form_numbers}
 use Rattle.pd_count.proofs.FormLemmas.{shown_few, spread_same}
 use Rattle.pd_count.proofs.chunk.Chunk.spread.Goals as goal
 

@@ -1,5 +1,5 @@
 use Rattle.std.proofs.Common.{◌∙◌, sym, ap, subst, arith}
-use Rattle.pd_count.specs.Forms.{AreEntries, IsForm, digits_number, entered, form_numbers}
+use Rattle.pd_count.specs.Counted.{AreEntries, IsForm, digits_number, entered, form_numbers}
 use Rattle.pd_count.proofs.EntryLemmas.{zeros_counted}
 use Rattle.pd_count.proofs.FormLemmas.{shown_dense, shown_few, zeros_shown}
 use Rattle.pd_count.proofs.chunk.Chunk.zeros.Goals as goal

@@ -1,5 +1,5 @@
 use Rattle.std.proofs.Common.{[], refl, sym}
-use Rattle.pd_count.specs.Groups.{no_group}
+use Rattle.pd_count.specs.Counted.{no_group}
 use Rattle.pd_count.proofs.CountLemmas.{chunk_made, chunk_absent}
 use Rattle.pd_count.proofs.GroupLemmas.{group_counts}
 use Rattle.pd_count.proofs.counts.Counts.chunk.Goals as goal

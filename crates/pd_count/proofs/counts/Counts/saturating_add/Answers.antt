@@ -1,6 +1,6 @@
 use Rattle.std.proofs.Common.{◌∙◌, sym, ap, ◌+◌, ◌/◌, ◌<◌, min, arith, length, slice_set, length-set}
 use Rattle.pd_count.specs.Counted.{Counted, PutsNumber, count_of}
-use Rattle.pd_count.specs.Groups.{chunks_in}
+use Rattle.pd_count.specs.Counted.{chunks_in}
 use Rattle.pd_count.proofs.CountLemmas.{counts_listed, counts_one_more, none_past}
 use Rattle.pd_count.proofs.GroupLemmas.{count_in_group, group_puts}
 use Rattle.pd_count.proofs.counts.Counts.saturating_add.Goals as goal

@@ -1,6 +1,6 @@
 use Rattle.std.proofs.Common.{◌∙◌, ap, ◌/◌, arith, slice_set, length-set}
 use Rattle.pd_count.specs.Counted.{Counted, PutsNumber}
-use Rattle.pd_count.specs.Groups.{chunks_in}
+use Rattle.pd_count.specs.Counted.{chunks_in}
 use Rattle.pd_count.proofs.CountLemmas.{none_past}
 use Rattle.pd_count.proofs.GroupLemmas.{group_puts}
 use Rattle.pd_count.proofs.counts.Counts.set.Goals as goal

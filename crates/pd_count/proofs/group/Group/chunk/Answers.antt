@@ -1,5 +1,5 @@
 use Rattle.std.proofs.Common.{◌∙◌, length, sym, ap, subst}
-use Rattle.pd_count.specs.Groups.{Grouped, IsPlace, chunk_of}
+use Rattle.pd_count.specs.Counted.{Grouped, IsPlace, chunk_of}
 use Rattle.pd_count.proofs.PlaceLemmas.{chunk_missing, chunk_read}
 use Rattle.pd_count.proofs.group.Group.chunk.Goals as goal
 

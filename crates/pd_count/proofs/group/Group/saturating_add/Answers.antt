@@ -1,5 +1,5 @@
-use Rattle.std.proofs.Common.{◌∙◌, ◌+◌, ℕ, List, get_or, length, sym, ap, subst}
-use Rattle.pd_count.specs.Groups.{Grouped, IsPlace, PutsInGroup, chunk_of}
+use Rattle.std.proofs.Common.{◌∙◌, ℕ, List, get_or, length, sym, ap, subst}
+use Rattle.pd_count.specs.Counted.{Grouped, IsPlace, PutsInGroup, chunk_of}
 use Rattle.pd_count.proofs.PlaceLemmas.{adds_in_made, chunk_missing, chunk_read, first_count}
 use Rattle.pd_count.proofs.group.Group.saturating_add.Goals as goal
 

@@ -1,5 +1,5 @@
 use Rattle.std.proofs.Common.{length, sym, subst}
-use Rattle.pd_count.specs.Groups.{Grouped, IsPlace}
+use Rattle.pd_count.specs.Counted.{Grouped, IsPlace}
 use Rattle.pd_count.proofs.PlaceLemmas.{puts_in_made}
 use Rattle.pd_count.proofs.group.Group.set.Goals as goal
 

@@ -1,5 +1,6 @@
 use Rattle.std.proofs.Common.{refl, arith}
-use Rattle.pd_devices.proofs.GatherLemmas.{gathered_run, gathered_few, gathered_room, gathered_some, on_ok_both}
+use Rattle.pd_kinds.proofs.ResultLemmas.{on_ok_both}
+use Rattle.pd_devices.proofs.DeviceLemmas.{gathered_run, gathered_few, gathered_room, gathered_some}
 use Rattle.pd_devices.specs.Gathered.{data_in}
 use Rattle.pd_devices.proofs.devices.Devices.add_run.Goals as goal
 

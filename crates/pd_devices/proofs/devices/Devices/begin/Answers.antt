@@ -1,6 +1,6 @@
 use Rattle.std.proofs.Common.{◌≡◌, ◌<◌, ◌^◌, ltb, ◌&&◌, true, refl, arith}
 use Rattle.std.proofs.lemmas.Bool.{lt-ltb}
-use Rattle.pd_devices.proofs.GatherLemmas.{gathered_begun}
+use Rattle.pd_devices.proofs.DeviceLemmas.{gathered_begun}
 use Rattle.pd_devices.proofs.devices.Devices.begin.Goals as goal
 
 pub returns-clause-begun : goal.returns-clause-begun

@@ -1,5 +1,5 @@
 use Rattle.std.proofs.Common.{◌≡◌, ◌<◌, ◌^◌, Some, refl, sym, ◌∙◌, arith}
-use Rattle.pd_devices.proofs.GatherLemmas.{gathered_ended, gathered_room, on_ok}
+use Rattle.pd_devices.proofs.DeviceLemmas.{gathered_ended, gathered_room, on_ok}
 use Rattle.pd_devices.proofs.devices.Devices.end.Goals as goal
 
 pub finish-requires-clause-room : goal.finish-requires-clause-room

@@ -1,6 +1,6 @@
 use Rattle.std.proofs.Common.{◌≡◌, length, ◌∙◌, ap}
 use Rattle.pd_count.specs.Counted.{Counted}
-use Rattle.pd_devices.proofs.GatherLemmas.{gathered_need}
+use Rattle.pd_devices.proofs.DeviceLemmas.{gathered_need}
 use Rattle.pd_devices.proofs.devices.Devices.need.Goals as goal
 
 pub returns : goal.returns

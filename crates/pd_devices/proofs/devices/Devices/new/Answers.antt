@@ -1,5 +1,5 @@
 use Rattle.std.proofs.Common.{refl, sym, ◌∙◌, arith}
-use Rattle.pd_devices.proofs.GatherLemmas.{gathered_start}
+use Rattle.pd_devices.proofs.DeviceLemmas.{gathered_start}
 use Rattle.pd_devices.proofs.devices.Devices.new.Goals as goal
 
 pub returns : goal.returns

@@ -1,5 +1,5 @@
 use Rattle.std.proofs.Common.{rules, refl, ◌+◌}
-use Rattle.pd_draft.proofs.PlacedLemmas.{wrote_one}
+use Rattle.pd_draft.proofs.DraftLemmas.{wrote_one}
 use Rattle.pd_draft.proofs.draft.Draft.put.Goals as goal
 
 pub returns-clause-wrote : goal.returns-clause-wrote

@@ -1,5 +1,5 @@
 use Rattle.std.proofs.Common.{◌∙◌}
-use Rattle.pd_query.proofs.PutsLemmas.{one_told}
+use Rattle.pd_query.proofs.QueryLemmas.{one_told}
 use Rattle.pd_query.proofs.QueryLemmas.{ends_as, puts_as}
 use Rattle.pd_dumps.proofs.cache.TextOfCacheQuery.put.Goals as goal
 

@@ -1,7 +1,7 @@
 use Rattle.std.proofs.Common.{rules, subst}
 use Rattle.pd_lines.specs.Printer.{printing}
-use Rattle.pd_query.specs.Puts.{PutsText}
-use Rattle.pd_query.proofs.PutsLemmas.{text_finished, text_stopped}
+use Rattle.pd_query.specs.Query.{PutsText}
+use Rattle.pd_query.proofs.QueryLemmas.{text_finished, text_stopped}
 use Rattle.pd_dumps.specs.EraDump.{text_left}
 use Rattle.pd_dumps.proofs.era.EraDump.put.Goals as goal
 

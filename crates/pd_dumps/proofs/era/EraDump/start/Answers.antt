@@ -1,6 +1,6 @@
 use Rattle.std.proofs.Common.{◌≡◌, IfSome, subst}
-use Rattle.pd_era_meaning.specs.Eras.{eras_below}
-use Rattle.pd_era_meaning.specs.Parts.{eras_left}
+use Rattle.pd_meaning_era.specs.Eras.{eras_below}
+use Rattle.pd_meaning_era.specs.Parts.{eras_left}
 use Rattle.pd_dumps.specs.EraLines.{era_dump_text}
 use Rattle.pd_dumps.proofs.EraLemmas.{text_given, text_means}
 use Rattle.pd_dumps.proofs.era.EraDump.start.Goals as goal

@@ -1,5 +1,5 @@
 use Rattle.std.proofs.Common.{arith}
-use Rattle.pd_dumps.proofs.OpenRunLemmas.{only_line}
+use Rattle.pd_dumps.proofs.EraLemmas.{only_line}
 use Rattle.pd_dumps.proofs.runs.OpenRun.end.Goals as goal
 
 pub returns-clause-prints : goal.returns-clause-prints

@@ -1,9 +1,9 @@
 use Rattle.std.proofs.Common.{[], ◌+◌, ◌++◌}
 use Rattle.pd_lines.specs.Printer.{printing}
 use Rattle.pd_lines.proofs.Printing.{begun_first}
-use Rattle.pd_spells.specs.EraText.{eras_from, joined_eras}
-use Rattle.pd_dumps.specs.Runs.{printed_from, text_from}
-use Rattle.pd_dumps.proofs.OpenRunLemmas.{run_ends, run_grows}
+use Rattle.pd_grammar.specs.EraText.{eras_from, joined_eras}
+use Rattle.pd_dumps.specs.EraLines.{printed_from, text_from}
+use Rattle.pd_dumps.proofs.EraLemmas.{run_ends, run_grows}
 use Rattle.pd_dumps.proofs.PartLemmas.{front_none, up_to_lost}
 use Rattle.pd_dumps.proofs.runs.OpenRun.join.Goals as goal
 

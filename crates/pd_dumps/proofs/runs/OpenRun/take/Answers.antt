@@ -1,5 +1,5 @@
 use Rattle.std.proofs.Common.{ℕ, List, [], ◌+◌, ◌++◌, drop, map, ap, ◌∙◌, arith}
-use Rattle.pd_dumps.specs.Runs.{text_from}
+use Rattle.pd_dumps.specs.EraLines.{text_from}
 use Rattle.pd_dumps.proofs.PartLemmas.{cut_at, front_lost, front_more, up_to_lost}
 use Rattle.pd_dumps.proofs.runs.OpenRun.take.Goals as goal
 

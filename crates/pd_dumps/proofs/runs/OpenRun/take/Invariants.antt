@@ -1,7 +1,7 @@
 use Rattle.std.proofs.Common.{◌≡◌, ◌+◌, ◌-◌, ◌≤◌, ℕ, List, ◌++◌, drop, length, map}
 use Rattle.pd_lines.specs.Printer.{printing}
-use Rattle.pd_dumps.specs.Cut.{PrintsFront}
-use Rattle.pd_dumps.specs.Runs.{end_of, text_from}
+use Rattle.pd_dumps.specs.EraLines.{PrintsFront}
+use Rattle.pd_dumps.specs.EraLines.{end_of, text_from}
 use Rattle.pd_dumps.proofs.runs.OpenRun.take.Given as goal
 
 abbrev pub invariant-loop-at : goal.invariant-loop-at

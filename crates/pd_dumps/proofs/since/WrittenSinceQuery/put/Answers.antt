@@ -1,4 +1,4 @@
-use Rattle.pd_query.proofs.PutsLemmas.{one_told}
+use Rattle.pd_query.proofs.QueryLemmas.{one_told}
 use Rattle.pd_query.proofs.QueryLemmas.{puts_as}
 use Rattle.pd_dumps.proofs.since.WrittenSinceQuery.put.Goals as goal
 

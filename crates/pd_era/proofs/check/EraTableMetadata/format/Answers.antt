@@ -1,8 +1,8 @@
 use Rattle.std.proofs.Common.{◌∙◌}
 use Rattle.pd_kinds.specs.Layout.{graph_of}
 use Rattle.pd_kinds.specs.EraFormat.{era_graph}
-use Rattle.pd_laws.proofs.EraTable.{super_sound}
-use Rattle.pd_era.proofs.ReadyLemmas.{graph_is}
+use Rattle.pd_kinds.proofs.EraTable.{super_sound}
+use Rattle.pd_era.proofs.WholeLemmas.{graph_is}
 use Rattle.pd_era.proofs.check.EraTableMetadata.format.Goals as goal
 
 pub of-requires-clause-some : goal.of-requires-clause-some

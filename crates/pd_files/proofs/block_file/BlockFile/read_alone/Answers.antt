@@ -3,7 +3,7 @@ use Rattle.std.proofs.Common.{◌≡◌, ◌+◌, ◌*◌, ◌∷◌, ◌⊎◌,
 use Rattle.std.specs.Prelude.{Some}
 use Rattle.std.proofs.lemmas.List.{length-take}
 use Rattle.pd_files.specs.FileCall.{gave}
-use Rattle.pd_files.specs.Given.{place, IsGivenAt}
+use Rattle.pd_files.specs.FileCall.{place, IsGivenAt}
 use Rattle.pd_files.specs.Run.{kept_bytes}
 use Rattle.pd_files.proofs.GivenLemmas.{given_by_read, given_beside_read, IsGivenAt-same, is_at-same, beside_run, one_look, looks_then}
 use Rattle.pd_files.proofs.block_file.BlockFile.read_alone.Goals as goal
@@ -18,7 +18,7 @@ invariant_of-self-2-clause-told g c =
     let calls = c.move_to_block.new.file.log.calls in
     let stands : place calls ≡ Some (4096 * c.args.b) =
     c.in_ok-move_to_block.ensures.stands (λ known. before.stands c.args.b (is_at-same before.position c.args.b (sym c.stands_at-known.ensures ∙ known))) in
-    let few : length (kept_bytes before.run) ≤ 4096 * before.run.count = omega (arith, length-take (4096 * before.run.count) before.run.room.items) in
+    let few : length (kept_bytes before.run) ≤ 4096 * before.run.count = omega (arith, length-take (4096 * before.run.count) before.run.buffer.items) in
     let told : IsGivenAt calls (4096 * before.run.first) (kept_bytes before.run) =
     IsGivenAt-same before.file.log.calls calls _ (kept_bytes before.run) c.move_to_block.ensures.kept before.told in
     let beside : (4096 * before.run.first + length (kept_bytes before.run) ≤ 4096 * c.args.b) ⊎ (4096 * c.args.b + length c.fill.new.into ≤ 4096 * before.run.first) =

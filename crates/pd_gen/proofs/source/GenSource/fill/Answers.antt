@@ -1,6 +1,6 @@
 use Rattle.std.proofs.Common.{◌-◌, ◌≤◌, length, ◌∙◌}
 use Rattle.pd_gen.specs.GenSource.{text_left}
-use Rattle.pd_gen.proofs.Filling.{moved_more, moved_within}
+use Rattle.pd_gen.proofs.Putting.{moved_more, moved_within}
 use Rattle.pd_gen.proofs.source.GenSource.fill.Goals as goal
 
 pub loop-filled-preserved : goal.loop-filled-preserved

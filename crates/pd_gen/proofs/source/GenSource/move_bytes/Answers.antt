@@ -1,9 +1,9 @@
 use Rattle.std.proofs.Common.{ℕ, List, [], ◌∷◌, ◌++◌, ◌≤◌, ◌-◌, cond, length, take, drop, ap, ◌∙◌, arith, length-drop}
 use Rattle.std.proofs.lemmas.List.{take_all}
 use Rattle.pd_grammar.specs.Texts.{text_of_lines}
-use Rattle.pd_spells.specs.ThinText.{end_line, thin}
+use Rattle.pd_grammar.specs.ThinText.{end_line, thin}
 use Rattle.pd_gen.specs.Lines.{lines_left}
-use Rattle.pd_gen.proofs.Filling.{moved_front}
+use Rattle.pd_gen.proofs.Putting.{moved_front}
 use Rattle.pd_gen.proofs.source.GenSource.move_bytes.Goals as goal
 
 pub returns-clause-moved : goal.returns-clause-moved

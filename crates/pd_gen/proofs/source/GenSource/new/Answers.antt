@@ -1,9 +1,9 @@
 use Rattle.std.proofs.Common.{ℕ, List, [], ◌∷◌, ◌++◌, Some, None, ap, ◌∙◌}
 use Rattle.pd_kinds.specs.Objects.{SourceState}
 use Rattle.pd_grammar.specs.Texts.{text_of_lines}
-use Rattle.pd_spells.specs.ThinText.{end_line, thin}
+use Rattle.pd_grammar.specs.ThinText.{end_line, thin}
 use Rattle.pd_gen.specs.Lines.{lines_left}
-use Rattle.pd_gen.proofs.Begins.{all_left}
+use Rattle.pd_gen.proofs.Spelled.{all_left}
 use Rattle.pd_gen.proofs.source.GenSource.new.Goals as goal
 
 pub returns : goal.returns

@@ -1,7 +1,7 @@
 use Rattle.std.proofs.Common.{◌≡◌, Bool, true, false, ◌||◌, ◌&&◌, ap, sym, nat_eq, refl, List, ℕ, get_or}
 use Rattle.pd_kinds.specs.Rule.{same_rule}
 use Rattle.pd_kinds.specs.declared.rule.Rule.TheVariants.{Role}
-use Rattle.pd_graph.specs.Roles.{has_several}
+use Rattle.pd_graph.specs.Marks.{has_several}
 use Rattle.pd_graph.specs.Marks.{has_rule_in, rules_of, seen_of}
 use Rattle.pd_graph.proofs.audit.Audit.mark.Goals as goal
 

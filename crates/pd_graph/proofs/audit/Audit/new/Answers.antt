@@ -1,7 +1,7 @@
 use Rattle.std.proofs.Common.{◌≡◌, Bool, false, ◌||◌, ◌&&◌, refl, ap, ◌∙◌}
 use Rattle.pd_kinds.specs.Rule.{same_rule}
 use Rattle.pd_kinds.specs.declared.rule.Rule.TheVariants.{Role}
-use Rattle.pd_graph.specs.Roles.{has_several}
+use Rattle.pd_graph.specs.Marks.{has_several}
 use Rattle.pd_graph.proofs.BitLemmas.{none_several}
 use Rattle.pd_graph.proofs.audit.Audit.new.Goals as goal
 

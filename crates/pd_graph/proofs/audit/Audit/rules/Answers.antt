@@ -1,9 +1,9 @@
 use Rattle.std.proofs.Common.{◌≡◌, Bool, true, false, ◌||◌, ◌&&◌, refl, sym, ◌∙◌, ap, arith, ◌<◌, length}
 use Rattle.pd_kinds.specs.declared.rules.Rules.{Rules}
-use Rattle.pd_kinds.specs.RuleSet.{has_rule}
+use Rattle.pd_kinds.specs.Rule.{has_rule}
 use Rattle.pd_kinds.specs.Rule.{same_rule}
 use Rattle.pd_kinds.specs.declared.rule.Rule.TheVariants.{Role}
-use Rattle.pd_graph.specs.Roles.{has_several}
+use Rattle.pd_graph.specs.Marks.{has_several}
 use Rattle.pd_graph.specs.Marks.{rules_of}
 use Rattle.pd_graph.proofs.TableLemmas.{has_rule_in-get_or}
 use Rattle.pd_graph.proofs.audit.Audit.rules.Goals as goal

@@ -1,6 +1,6 @@
 use Rattle.std.proofs.Common.{◌<◌, length, sym, ◌∙◌, arith}
 use Rattle.std.proofs.lemmas.List.{get_or_default}
-use Rattle.pd_graph.proofs.BlockTableLemmas.{length-values, kept_value, unset_value}
+use Rattle.pd_graph.proofs.TableLemmas.{length-values, kept_value, unset_value}
 use Rattle.pd_graph.proofs.block_table.BlockTable.get.Goals as goal
 
 pub returns-then-place-len : goal.returns-then-place-len

@@ -1,5 +1,5 @@
 use Rattle.std.proofs.Common.{◌≡◌, ℕ, arith, ◌∙◌, ◌-◌, ◌++◌, length, replicate, ap, List}
-use Rattle.pd_graph.specs.BlockTable.{values_of}
+use Rattle.pd_graph.specs.Marks.{values_of}
 use Rattle.pd_graph.proofs.block_table.BlockTable.new.Goals as goal
 
 pub returns : goal.returns

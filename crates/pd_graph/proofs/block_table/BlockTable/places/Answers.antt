@@ -1,5 +1,5 @@
 use Rattle.std.proofs.Common.{sym}
-use Rattle.pd_graph.proofs.BlockTableLemmas.{length-values}
+use Rattle.pd_graph.proofs.TableLemmas.{length-values}
 use Rattle.pd_graph.proofs.block_table.BlockTable.places.Goals as goal
 
 pub returns : goal.returns

@@ -1,6 +1,6 @@
 use Rattle.std.proofs.Common.{◌+◌, is_ok, ap, arith}
-use Rattle.pd_graph.specs.BlockTable.{values_of}
-use Rattle.pd_graph.proofs.BlockTableLemmas.{length-values, same_values, most_of}
+use Rattle.pd_graph.specs.Marks.{values_of}
+use Rattle.pd_graph.proofs.TableLemmas.{length-values, same_values, most_of}
 use Rattle.pd_graph.proofs.block_table.BlockTable.reach.Goals as goal
 
 pub overflow_add-place : goal.overflow_add-place

@@ -1,6 +1,6 @@
 use Rattle.std.proofs.Common.{List, set, ap, ◌∙◌, arith}
-use Rattle.pd_graph.specs.BlockTable.{values_of}
-use Rattle.pd_graph.proofs.BlockTableLemmas.{set_value}
+use Rattle.pd_graph.specs.Marks.{values_of}
+use Rattle.pd_graph.proofs.TableLemmas.{set_value}
 use Rattle.pd_graph.proofs.block_table.BlockTable.set.Goals as goal
 
 pub returns : goal.returns

@@ -1,7 +1,7 @@
 use Rattle.std.proofs.Common.{◌∙◌, ap, sym, List, ◌||◌}
 use Rattle.pd_kinds.specs.declared.rules.Rules.{Rules}
 use Rattle.pd_kinds.specs.Rule.{same_rule}
-use Rattle.pd_kinds.specs.RuleSet.{has_rule}
+use Rattle.pd_kinds.specs.Rule.{has_rule}
 use Rattle.pd_graph.specs.Marks.{has_rule_in, rules_of}
 use Rattle.pd_graph.proofs.TableLemmas.{has_rule_in_more}
 use Rattle.pd_graph.proofs.marks.Marks.add_rule.Goals as goal

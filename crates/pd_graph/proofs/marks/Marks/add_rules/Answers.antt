@@ -1,6 +1,6 @@
 use Rattle.std.proofs.Common.{◌||◌, List, ap, sym, ◌∙◌}
 use Rattle.pd_kinds.specs.declared.rules.Rules.{Rules}
-use Rattle.pd_kinds.specs.RuleSet.{has_rule}
+use Rattle.pd_kinds.specs.Rule.{has_rule}
 use Rattle.pd_graph.specs.Marks.{has_rule_in, rules_of}
 use Rattle.pd_graph.proofs.TableLemmas.{has_rule_in_more}
 use Rattle.pd_graph.proofs.marks.Marks.add_rules.Goals as goal

@@ -1,8 +1,8 @@
 use Rattle.std.proofs.Common.{List, ◌<◌, length, ap, subst, sym, ◌∙◌, ◌-◌, arith, drop, refl}
 use Rattle.std.proofs.lemmas.List.{drop_all}
-use Rattle.pd_kinds.specs.Edge.{Edge, edge_of}
+use Rattle.pd_kinds.specs.Graph.{Edge, edge_of}
 use Rattle.pd_graph.specs.Marks.{Follows}
-use Rattle.pd_graph.proofs.EdgeLemmas.{edges_from, follows_none, follows_before}
+use Rattle.pd_graph.proofs.AnyLemmas.{edges_from, follows_none, follows_before}
 use Rattle.pd_graph.proofs.marks.Marks.follow.Goals as goal
 
 pub loop-i-preserved : goal.loop-i-preserved

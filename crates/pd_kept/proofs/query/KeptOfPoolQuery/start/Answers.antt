@@ -1,7 +1,7 @@
 use Rattle.std.proofs.Common.{List, Option, IfSome, subst, ℕ}
 use Rattle.pd_answers.specs.KeptLines.{IsTold}
 use Rattle.pd_kept.specs.Kept.{told_of}
-use Rattle.pd_kept.proofs.QueryLemmas.{is_answer}
+use Rattle.pd_kept.proofs.StatesLemmas.{is_answer}
 use Rattle.pd_kept.proofs.query.KeptOfPoolQuery.start.Goals as goal
 
 pub returns-in-Ok-clause-over : goal.returns-in-Ok-clause-over

@@ -1,7 +1,7 @@
 use Rattle.std.proofs.Common.{◌≡◌, ℕ, ◌+◌, List, [], ◌∷◌, ◌++◌, length, take, refl, ap, sym, ◌∙◌, arith}
 use Rattle.std.proofs.lemmas.List.{length-append}
-use Rattle.pd_kinds.specs.declared.fault.Fault.{Fault}
-use Rattle.pd_kinds.specs.Report.{Reported, is_leak, report_of, with_fault}
+use Rattle.pd_kinds.specs.declared.rule.Fault.{Fault}
+use Rattle.pd_kinds.specs.Rule.{Reported, is_leak, report_of, with_fault}
 use Rattle.pd_kinds.proofs.ReportLemmas.{count_more, kept_below, kept_full, front_of_front}
 use Rattle.pd_kinds.proofs.report.Report.add.Goals as goal
 use Rattle.pd_kinds.proofs.report.Report.add.Goals.{then-self-lt-KEPT_FAULTS, else-self-lt-KEPT_FAULTS}

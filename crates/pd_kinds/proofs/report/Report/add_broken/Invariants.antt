@@ -1,8 +1,8 @@
 use Rattle.std.proofs.Common.{◌≡◌, ◌+◌, ◌≤◌, List, ◌++◌, take, map, filter}
-use Rattle.pd_kinds.specs.declared.fault.Fault.{Fault}
-use Rattle.pd_kinds.specs.RuleSet.{has_rule}
-use Rattle.pd_kinds.specs.Report.{report_of}
-use Rattle.pd_kinds.specs.Faults.{meta_fault}
+use Rattle.pd_kinds.specs.declared.rule.Fault.{Fault}
+use Rattle.pd_kinds.specs.Rule.{has_rule}
+use Rattle.pd_kinds.specs.Rule.{report_of}
+use Rattle.pd_kinds.specs.Rule.{meta_fault}
 use Rattle.pd_kinds.proofs.report.Report.add_broken.Given as goal
 
 abbrev pub invariant-loop-rule : goal.invariant-loop-rule

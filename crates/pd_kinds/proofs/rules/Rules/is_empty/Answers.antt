@@ -3,7 +3,7 @@ use Rattle.std.specs.Int.{bit_at}
 use Rattle.std.proofs.lemmas.Bool.{eqb-true}
 use Rattle.std.proofs.lemmas.Nat.Bits.{bit_at-zero}
 use Rattle.pd_kinds.specs.Rule.{number_of}
-use Rattle.pd_kinds.proofs.RuleBits.{rule_numbered, empty_from_bits}
+use Rattle.pd_kinds.proofs.ReportLemmas.{rule_numbered, empty_from_bits}
 use Rattle.pd_kinds.proofs.rules.Rules.is_empty.Goals as goal
 
 pub returns : goal.returns

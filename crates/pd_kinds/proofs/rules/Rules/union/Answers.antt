@@ -1,6 +1,6 @@
 use Rattle.std.proofs.lemmas.Nat.{or_lt}
 use Rattle.pd_kinds.specs.Rule.{number_of}
-use Rattle.pd_kinds.proofs.RuleBits.{bit_of_both}
+use Rattle.pd_kinds.proofs.ReportLemmas.{bit_of_both}
 use Rattle.pd_kinds.proofs.rules.Rules.union.Goals as goal
 
 pub invariant_of-result : goal.invariant_of-result

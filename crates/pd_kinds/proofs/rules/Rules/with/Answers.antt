@@ -1,5 +1,5 @@
 use Rattle.pd_kinds.specs.Rule.{number_of}
-use Rattle.pd_kinds.proofs.RuleBits.{number_below, tag_is, with_bit_below, bit_of_with}
+use Rattle.pd_kinds.proofs.ReportLemmas.{number_below, tag_is, with_bit_below, bit_of_with}
 use Rattle.pd_kinds.proofs.rules.Rules.with.Goals as goal
 
 pub invariant_of-result : goal.invariant_of-result

@@ -1,5 +1,5 @@
 use Rattle.std.proofs.Common.{arith}
-use Rattle.pd_layouts.proofs.Treeless.{no_data}
+use Rattle.pd_layouts.proofs.Rows.{no_data}
 use Rattle.pd_layouts.proofs.tabled.TabledFormat.data_ref_of_any.Goals as goal
 
 pub data_of_node-requires : goal.data_of_node-requires

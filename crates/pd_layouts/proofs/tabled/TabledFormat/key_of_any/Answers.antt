@@ -1,5 +1,5 @@
 use Rattle.std.proofs.Common.{arith}
-use Rattle.pd_layouts.proofs.Treeless.{no_keys}
+use Rattle.pd_layouts.proofs.Rows.{no_keys}
 use Rattle.pd_layouts.proofs.tabled.TabledFormat.key_of_any.Goals as goal
 
 pub key_of-requires : goal.key_of-requires

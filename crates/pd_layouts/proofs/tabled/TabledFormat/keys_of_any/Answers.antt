@@ -1,5 +1,5 @@
 use Rattle.std.proofs.Common.{refl}
-use Rattle.pd_layouts.proofs.Treeless.{no_keys}
+use Rattle.pd_layouts.proofs.Rows.{no_keys}
 use Rattle.pd_layouts.proofs.tabled.TabledFormat.keys_of_any.Goals as goal
 
 pub returns-in-Some : goal.returns-in-Some

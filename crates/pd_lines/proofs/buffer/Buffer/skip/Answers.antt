@@ -1,5 +1,5 @@
 use Rattle.std.proofs.Common.{◌∙◌, ap, ◌+◌, ◌≤◌, drop}
-use Rattle.pd_lines.proofs.BufferLemmas.{skipped, skip_within}
+use Rattle.pd_lines.proofs.ReaderLemmas.{skipped, skip_within}
 use Rattle.pd_lines.proofs.buffer.Buffer.skip.Goals as goal
 
 pub returns : goal.returns

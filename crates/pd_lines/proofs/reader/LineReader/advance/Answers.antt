@@ -1,5 +1,5 @@
 use Rattle.std.proofs.Common.{◌≡◌, ◌+◌, ◌-◌, ℕ, [], take, drop, refl, ap, sym, Ok, Err, Some, arith}
-use Rattle.pd_lines.specs.declared.fault.LineFault.TheVariants.{NotText}
+use Rattle.pd_lines.specs.declared.reader.LineFault.TheVariants.{NotText}
 use Rattle.pd_lines.proofs.ReaderLemmas.{held_line, not_text, reads_moved, reads_end}
 use Rattle.pd_lines.proofs.reader.LineReader.advance.Goals as goal
 

@@ -1,4 +1,4 @@
-use Rattle.pd_pool_dumps.proofs.CountLemmas.{count_both}
+use Rattle.pd_pool_dumps.proofs.RunLemmas.{count_both}
 use Rattle.pd_pool_dumps.proofs.counts.DumpCounts.add.Goals as goal
 
 pub returns : goal.returns

@@ -1,6 +1,6 @@
 use Rattle.std.proofs.Common.{ℕ, ◌+◌, ◌-◌, ◌^◌, min, ap, ◌∙◌}
 use Rattle.pd_texts.specs.ThinLine.{line_of}
-use Rattle.pd_pool_dumps.proofs.CountLemmas.{count_one}
+use Rattle.pd_pool_dumps.proofs.RunLemmas.{count_one}
 use Rattle.pd_pool_dumps.proofs.counts.DumpCounts.count.Goals as goal
 
 pub returns : goal.returns

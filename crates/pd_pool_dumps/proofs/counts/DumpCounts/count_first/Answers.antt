@@ -1,6 +1,6 @@
 use Rattle.std.proofs.Common.{refl}
-use Rattle.pd_spells.specs.ThinText.{first_line}
-use Rattle.pd_pool_dumps.proofs.CountLemmas.{count_plain}
+use Rattle.pd_grammar.specs.ThinText.{first_line}
+use Rattle.pd_pool_dumps.proofs.RunLemmas.{count_plain}
 use Rattle.pd_pool_dumps.proofs.counts.DumpCounts.count_first.Goals as goal
 
 pub returns : goal.returns

@@ -1,14 +1,14 @@
 use Rattle.std.proofs.Common.{ℕ, List, [], refl, sym, ap, ◌∙◌, subst}
-use Rattle.pd_image.proofs.ReadLemmas.{only_reads_both}
+use Rattle.pd_kinds.proofs.ResultLemmas.{if_any, on_ok_any}
+use Rattle.pd_image.proofs.CrashLemmas.{only_reads_both}
 use Rattle.pd_value.specs.declared.thin.BlockTime.{BlockTime}
 use Rattle.pd_tree.specs.Stack.{stack_items}
-use Rattle.pd_thin_meaning.specs.declared.joined.Run.{Run}
-use Rattle.pd_thin_meaning.specs.Items.{block_time_of}
-use Rattle.pd_thin_meaning.specs.Joined.{IsGiven}
-use Rattle.pd_pool_dumps.specs.DeviceWalk.{walk_runs}
-use Rattle.pd_query.proofs.PutsLemmas.{each_told}
-use Rattle.pd_pool_dumps.proofs.RunLemmas.{on_ok_any, runs_both, runs_fail, runs_lost, runs_same, runs_then}
-use Rattle.pd_pool_dumps.proofs.WalkLemmas.{ended, entry_given, with_items}
+use Rattle.pd_meaning_thin.specs.declared.joined.Run.{Run}
+use Rattle.pd_meaning_thin.specs.Runs.{block_time_of}
+use Rattle.pd_meaning_thin.specs.Runs.{IsGiven}
+use Rattle.pd_pool_dumps.specs.LeafText.{walk_runs}
+use Rattle.pd_pool_dumps.proofs.RunLemmas.{runs_both, runs_fail, runs_lost, runs_same, runs_then}
+use Rattle.pd_pool_dumps.proofs.LeafTextLemmas.{ended, entry_given, with_items}
 use Rattle.pd_pool_dumps.proofs.device_walk.DeviceWalk.go_on.Goals as goal
 
 -- a child
@@ -21,7 +21,7 @@ steps-preserved-in-Continue-1 g c =
     record {
       same_reference = c.in_ok-go_to-in-Child.ensures.same_reference ∙ so_far.same_reference;
       so_far = runs_both held so_far.so_far
-          (runs_both held (runs_same held _ c.steps.counts (each_told held (λ image. ap (λ (xs : List (ℕ × BlockTime)). with_items c.steps.self.joined xs) (down.items image)))) goes.outcome);
+          (runs_both held (runs_same held _ c.steps.counts (if_any held (λ image. ap (λ (xs : List (ℕ × BlockTime)). with_items c.steps.self.joined xs) (down.items image)))) goes.outcome);
       texts = rw so_far.kept.held at c.in_ok-go_to-in-Child.ensures.texts;
       kept = only_reads_both so_far.kept c.in_ok-go_to-in-Child.ensures.only_reads;
       dev_faults = c.in_ok-go_to-in-Child.ensures.faults.0 ∙ so_far.dev_faults;
@@ -35,7 +35,7 @@ steps-preserved g c =
     let so_far = c.steps.invariant in
     let gives = c.in-Entry.ensures.steps in
     let printed = c.in_ok-add_run-in-Entry.ensures.prints held (λ image. walk_runs image c.steps.self) (λ image. with_items c.take.new.self (stack_items 8 block_time_of image c.step.new.self))
-    (each_told held
+    (if_any held
     (λ image.
     entry_given c.take.result c.in-Entry.virt c.in-Entry.mapping c.steps.self.joined c.take.new.self (stack_items 8 block_time_of image c.steps.self.stack) (stack_items 8 block_time_of image c.step.new.self)
     (gives.items image) c.take.ensures)) in
@@ -56,7 +56,7 @@ returns-in_err-go_to-in-Child-clause-prints g c =
     let lost = rw so_far.kept.held at c.in_err-go_to-in-Child.ensures.prints in
     runs_fail held (λ image. []) {first = c.args.counts.now} {last = c.go_to.new.counts} c.from_residual.result c.from_residual.ensures.0
     (runs_lost held so_far.so_far
-    (runs_lost held (runs_same held _ c.steps.counts (each_told held (λ image. ap (λ (xs : List (ℕ × BlockTime)). with_items c.steps.self.joined xs) (down.items image)))) lost.outcome))
+    (runs_lost held (runs_same held _ c.steps.counts (if_any held (λ image. ap (λ (xs : List (ℕ × BlockTime)). with_items c.steps.self.joined xs) (down.items image)))) lost.outcome))
 
 pub returns-in_err-add_run-in-Entry-clause-prints : goal.returns-in_err-add_run-in-Entry-clause-prints
 returns-in_err-add_run-in-Entry-clause-prints g c =
@@ -64,7 +64,7 @@ returns-in_err-add_run-in-Entry-clause-prints g c =
     let so_far = c.steps.invariant in
     let gives = c.in-Entry.ensures.steps in
     let lost = c.in_err-add_run-in-Entry.ensures.prints held (λ image. walk_runs image c.steps.self) (λ image. with_items c.take.new.self (stack_items 8 block_time_of image c.step.new.self))
-    (each_told held
+    (if_any held
     (λ image.
     entry_given c.take.result c.in-Entry.virt c.in-Entry.mapping c.steps.self.joined c.take.new.self (stack_items 8 block_time_of image c.steps.self.stack) (stack_items 8 block_time_of image c.step.new.self)
     (gives.items image) c.take.ensures)) in
@@ -80,7 +80,7 @@ returns-clause-prints g c =
     let joined = c.steps.self.joined in
     runs_then held c.add_run-2.result c.steps.invariant.so_far
     (c.add_run-2.ensures.prints held (λ image. walk_runs image c.steps.self) (λ image. [])
-    (each_told held
+    (if_any held
     (λ image. subst (λ (runs : List Run). IsGiven c.end.result runs []) (sym (ended joined image c.steps.self.stack (c.steps-test.ensures.0 refl))) c.end.ensures.given)))
 
 pub returns-clause-texts : goal.returns-clause-texts

@@ -2,9 +2,9 @@ use Rattle.std.proofs.Common.{◌≡◌, IfSome}
 use Rattle.pd_image.specs.Device.{OnlyReads}
 use Rattle.pd_lines.specs.Printer.{printing}
 use Rattle.pd_tree.specs.Stack.{stack_number}
-use Rattle.pd_pool_dumps.specs.DeviceWalk.{kept_texts, walk_runs}
+use Rattle.pd_pool_dumps.specs.LeafText.{kept_texts, walk_runs}
 use Rattle.pd_pool_dumps.specs.LeafText.{AreKept}
-use Rattle.pd_pool_dumps.specs.RunsPrinted.{RunsSoFar}
+use Rattle.pd_pool_dumps.specs.ThinText.{RunsSoFar}
 use Rattle.pd_pool_dumps.proofs.device_walk.DeviceWalk.go_on.Given as goal
 
 -- the runs that aren't left any more were printed

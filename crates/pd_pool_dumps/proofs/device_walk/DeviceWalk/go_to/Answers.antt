@@ -2,20 +2,21 @@ use Rattle.std.proofs.Common.{ℕ, List, ◌+◌, ◌-◌, ◌<◌, ◌≤◌, �
 use Rattle.std.proofs.lemmas.Option.{IfSome_then}
 use Rattle.std.proofs.lemmas.Result.{on_ok_weaker}
 use Rattle.pd_kinds.specs.Graph.{block_at}
+use Rattle.pd_kinds.proofs.ResultLemmas.{if_both, on_ok_any}
 use Rattle.pd_value.specs.declared.thin.BlockTime.{BlockTime}
 use Rattle.pd_tree.specs.Below.{items_below}
 use Rattle.pd_tree.specs.Stack.{child_weight, stack_items, stack_number}
 use Rattle.pd_tree.proofs.NextLemmas.{items_outside}
 use Rattle.pd_tree.proofs.StackLemmas.{unit_some}
-use Rattle.pd_thin_meaning.specs.Items.{block_time_of}
-use Rattle.pd_thin_meaning.specs.Joined.{mapping_of}
-use Rattle.pd_query.specs.declared.fault.QueryFault.TheVariants.{Device}
+use Rattle.pd_meaning_thin.specs.Runs.{block_time_of}
+use Rattle.pd_meaning_thin.specs.Runs.{mapping_of}
+use Rattle.pd_query.specs.declared.query.QueryFault.TheVariants.{Device}
 use Rattle.pd_pool_dumps.specs.ThinText.{given_text}
-use Rattle.pd_pool_dumps.specs.DeviceWalk.{runs_with}
+use Rattle.pd_pool_dumps.specs.LeafText.{runs_with}
 use Rattle.pd_pool_dumps.specs.LeafText.{leaf_mappings}
-use Rattle.pd_query.proofs.PutsLemmas.{one_told, prints_none, two_told}
-use Rattle.pd_pool_dumps.proofs.RunLemmas.{on_ok_any, runs_same, runs_then}
-use Rattle.pd_pool_dumps.proofs.WalkLemmas.{leaf_below, with_items}
+use Rattle.pd_query.proofs.QueryLemmas.{one_told, prints_none}
+use Rattle.pd_pool_dumps.proofs.RunLemmas.{runs_same, runs_then}
+use Rattle.pd_pool_dumps.proofs.LeafTextLemmas.{leaf_below, with_items}
 use Rattle.pd_pool_dumps.proofs.device_walk.DeviceWalk.go_to.Goals as goal
 
 pub returns-in-Some-clause-prints : goal.returns-in-Some-clause-prints
@@ -58,7 +59,7 @@ returns-in-Ok-clause-prints g c =
 
 pub returns-in-Ok-clause-texts : goal.returns-in-Ok-clause-texts
 returns-in-Ok-clause-texts g c =
-    on_ok_weaker c.meet.result (λ keeps. two_told (g.D.Device.state c.args.dev.now).held (λ image read kept. keeps image read kept) c.in-Ok.ensures.pushes.read c.requires.kept) c.meet.ensures.texts
+    on_ok_weaker c.meet.result (λ keeps. if_both (g.D.Device.state c.args.dev.now).held (λ image read kept. keeps image read kept) c.in-Ok.ensures.pushes.read c.requires.kept) c.meet.ensures.texts
 
 pub returns-in-Ok-clause-number : goal.returns-in-Ok-clause-number
 returns-in-Ok-clause-number g c = let pushed = c.in-Ok.ensures.number in on_ok_weaker c.meet.result (λ less. omega arith) c.meet.ensures.number

@@ -1,7 +1,7 @@
 use Rattle.std.proofs.Common.{List, ◌++◌, ◌∙◌, sym, subst}
 use Rattle.pd_kinds.specs.Meaning.{Mapping}
-use Rattle.pd_thin_meaning.specs.Joined.{begun_mappings}
-use Rattle.pd_pool_dumps.specs.LeafLines.{AreTaken}
+use Rattle.pd_meaning_thin.specs.Runs.{begun_mappings}
+use Rattle.pd_pool_dumps.specs.LeafText.{AreTaken}
 use Rattle.pd_pool_dumps.specs.LeafText.{AreBetween}
 use Rattle.pd_pool_dumps.proofs.LeafTextLemmas.{taken_more}
 use Rattle.pd_pool_dumps.proofs.leaf_lines.LeafLines.take.Goals as goal

@@ -1,8 +1,8 @@
 use Rattle.std.proofs.Common.{rules, subst}
 use Rattle.pd_lines.specs.Printer.{printing}
-use Rattle.pd_query.specs.Puts.{PutsText}
-use Rattle.pd_pool_dumps.specs.SharedDump.{shared_text_left}
-use Rattle.pd_query.proofs.PutsLemmas.{text_finished, text_stopped}
+use Rattle.pd_query.specs.Query.{PutsText}
+use Rattle.pd_pool_dumps.specs.ThinDump.{shared_text_left}
+use Rattle.pd_query.proofs.QueryLemmas.{text_finished, text_stopped}
 use Rattle.pd_pool_dumps.proofs.shared_dump.SharedDump.put.Goals as goal
 
 pub returns-clause-text : goal.returns-clause-text

@@ -1,5 +1,5 @@
 use Rattle.std.proofs.Common.{◌∙◌}
-use Rattle.pd_query.proofs.PutsLemmas.{one_told}
+use Rattle.pd_query.proofs.QueryLemmas.{one_told}
 use Rattle.pd_query.proofs.QueryLemmas.{ends_as, puts_as}
 use Rattle.pd_pool_dumps.proofs.thin_dump.TextOfPoolQuery.put.Goals as goal
 

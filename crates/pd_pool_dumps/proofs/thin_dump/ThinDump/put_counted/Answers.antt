@@ -1,16 +1,17 @@
 use Rattle.std.proofs.Common.{Ok, Err, rules, subst}
+use Rattle.pd_kinds.proofs.ResultLemmas.{if_any}
 use Rattle.pd_pool_dumps.specs.declared.counts.DumpCounts.{DumpCounts}
-use Rattle.pd_query.specs.declared.fault.QueryFault.{QueryFault}
-use Rattle.pd_query.specs.declared.fault.QueryFault.TheVariants.{Sink}
+use Rattle.pd_query.specs.declared.query.QueryFault.{QueryFault}
+use Rattle.pd_query.specs.declared.query.QueryFault.TheVariants.{Sink}
 use Rattle.pd_lines.specs.Printer.{printing}
-use Rattle.pd_query.specs.Puts.{PutsText}
+use Rattle.pd_query.specs.Query.{PutsText}
 use Rattle.pd_pool_dumps.specs.ThinDump.{lines_left, text_left}
-use Rattle.pd_pool_dumps.proofs.CountLemmas.{counts_whole}
-use Rattle.pd_query.proofs.PutsLemmas.{each_told, text_lost, text_put, text_stopped}
+use Rattle.pd_pool_dumps.proofs.RunLemmas.{counts_whole}
+use Rattle.pd_query.proofs.QueryLemmas.{text_lost, text_put, text_stopped}
 use Rattle.pd_pool_dumps.proofs.thin_dump.ThinDump.put_counted.Goals as goal
 
 pub add_pool-requires-clause-kept : goal.add_pool-requires-clause-kept
-add_pool-requires-clause-kept g c = rw c.clear.ensures (each_told (g.D.Device.state c.args.dev.now).held (λ image. tt))
+add_pool-requires-clause-kept g c = rw c.clear.ensures (if_any (g.D.Device.state c.args.dev.now).held (λ image. tt))
 
 pub returns-in-Ok-clause-text : goal.returns-in-Ok-clause-text
 returns-in-Ok-clause-text g c =

@@ -1,7 +1,7 @@
 use Rattle.std.proofs.Common.{◌≤◌, ◌∙◌, length, ap, arith}
-use Rattle.pd_kinds.specs.declared.thin_super.ThinSuper.{ThinSuper}
+use Rattle.pd_kinds.specs.declared.superblocks.ThinSuper.{ThinSuper}
 use Rattle.pd_pool_dumps.specs.ThinText.{dump_text}
-use Rattle.pd_query.proofs.PutsLemmas.{one_told}
+use Rattle.pd_query.proofs.QueryLemmas.{one_told}
 use Rattle.pd_pool_dumps.proofs.thin_dump.ThinDump.start.Goals as goal
 
 pub returns-clause-means : goal.returns-clause-means

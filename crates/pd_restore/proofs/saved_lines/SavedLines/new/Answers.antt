@@ -1,4 +1,4 @@
-use Rattle.pd_restore.specs.Spans.{behind_runs, in_runs}
+use Rattle.pd_restore.specs.SavedLines.{behind_runs, in_runs}
 use Rattle.pd_restore.proofs.SavedTextLemmas.{all_left}
 use Rattle.pd_restore.proofs.saved_lines.SavedLines.new.Goals as goal
 

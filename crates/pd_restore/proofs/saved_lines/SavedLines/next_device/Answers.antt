@@ -1,6 +1,6 @@
 use Rattle.std.proofs.Common.{◌+◌, drop, refl}
-use Rattle.pd_restore.specs.declared.span.RunSpan.{RunSpan}
-use Rattle.pd_restore.specs.Spans.{behind_runs, in_runs}
+use Rattle.pd_restore.specs.declared.saved_lines.RunSpan.{RunSpan}
+use Rattle.pd_restore.specs.SavedLines.{behind_runs, in_runs}
 use Rattle.pd_restore.proofs.SavedTextLemmas.{device_first, no_device, drop_there, drop_past}
 use Rattle.pd_restore.proofs.ShapeLineLemmas.{begun_behind_runs, begun_in_runs, none_in_runs}
 use Rattle.pd_restore.proofs.saved_lines.SavedLines.next_device.Goals as goal

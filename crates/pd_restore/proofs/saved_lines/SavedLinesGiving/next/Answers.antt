@@ -1,9 +1,9 @@
 use Rattle.std.proofs.Common.{◌≡◌, List, [], ◌∷◌, ap, drop, sym, subst, ◌∙◌}
 use Rattle.std.specs.Prelude.{IfNone}
 use Rattle.std.proofs.lemmas.Option.{IfSome_then}
-use Rattle.pd_spells.specs.ThinText.{Line}
+use Rattle.pd_grammar.specs.ThinText.{Line}
 use Rattle.pd_restore.specs.SavedLines.{lines_at}
-use Rattle.pd_restore.specs.Spans.{behind_runs, in_runs}
+use Rattle.pd_restore.specs.SavedLines.{behind_runs, in_runs}
 use Rattle.pd_restore.proofs.SavedTextLemmas.{run_first, no_run}
 use Rattle.pd_restore.proofs.ShapeLineLemmas.{none_in_runs}
 use Rattle.pd_restore.proofs.saved_lines.SavedLinesGiving.next.Goals as goal

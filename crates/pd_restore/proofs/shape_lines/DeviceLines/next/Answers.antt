@@ -1,12 +1,12 @@
 use Rattle.std.proofs.Common.{◌≡◌, [], List, ◌∷◌, ap, drop, refl, sym, subst, take, ◌∙◌}
 use Rattle.std.specs.Prelude.{IfNone}
 use Rattle.std.proofs.lemmas.Option.{IfSome_then}
-use Rattle.pd_spells.specs.ThinText.{Line}
+use Rattle.pd_grammar.specs.ThinText.{Line}
 use Rattle.pd_salvage.specs.declared.saved_shape.SavedPiece.{SavedPiece}
 use Rattle.pd_restore.specs.declared.shape_lines.DeviceLines.{DeviceLines}
-use Rattle.pd_restore.specs.declared.span.RunSpan.{RunSpan}
+use Rattle.pd_restore.specs.declared.saved_lines.RunSpan.{RunSpan}
 use Rattle.pd_restore.specs.ShapeLines.{device_lines}
-use Rattle.pd_restore.specs.Spans.{behind, behind_runs, in_runs, in_span}
+use Rattle.pd_restore.specs.SavedLines.{behind, behind_runs, in_runs, in_span}
 use Rattle.pd_restore.proofs.ShapeLineLemmas.{begun_behind_runs, begun_in_runs, none_in, none_in_runs, own_first, run_first, same_first, use_first}
 use Rattle.pd_restore.proofs.shape_lines.DeviceLines.next.Goals as goal
 

@@ -1,6 +1,6 @@
 use Rattle.std.proofs.Common.{refl}
-use Rattle.pd_restore.specs.declared.span.Span.{Span}
-use Rattle.pd_restore.specs.Spans.{behind, behind_runs, in_runs, in_span}
+use Rattle.pd_restore.specs.declared.saved_lines.Span.{Span}
+use Rattle.pd_restore.specs.SavedLines.{behind, behind_runs, in_runs, in_span}
 use Rattle.pd_restore.proofs.ShapeLineLemmas.{begun_behind, begun_in, device_first, none_first, none_in, none_in_runs}
 use Rattle.pd_restore.proofs.shape_lines.DeviceLines.next_device.Goals as goal
 

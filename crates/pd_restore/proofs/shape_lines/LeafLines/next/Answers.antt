@@ -1,5 +1,5 @@
 use Rattle.std.proofs.Common.{◌∷◌, ap, drop, refl, sym, take, ◌∙◌}
-use Rattle.pd_spells.specs.ThinText.{Line}
+use Rattle.pd_grammar.specs.ThinText.{Line}
 use Rattle.pd_restore.specs.declared.shape_lines.LeafLines.{LeafLines}
 use Rattle.pd_restore.specs.ShapeLines.{leaf_lines}
 use Rattle.pd_restore.proofs.ShapeLineLemmas.{begun_behind_runs, begun_in_runs, leaf_next, leaf_run, no_leaf, none_in, none_in_runs}

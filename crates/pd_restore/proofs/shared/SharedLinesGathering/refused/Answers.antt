@@ -1,5 +1,5 @@
 use Rattle.std.proofs.Common.{ℕ, ◌≤◌, subst, arith}
-use Rattle.pd_texts.specs.declared.fault.ReadFault.TheVariants.{Text}
+use Rattle.pd_texts.specs.declared.reader.ReadFault.TheVariants.{Text}
 use Rattle.pd_restore.specs.Shared.{HasShared}
 use Rattle.pd_restore.proofs.ReadingLemmas.{line_says}
 use Rattle.pd_restore.proofs.SharedLemmas.{before_says, behind_says, few_lines_before}

@@ -2,7 +2,7 @@ use Rattle.std.proofs.Common.{arith, rules}
 use Rattle.pd_draft.specs.DraftState.{draft_state}
 use Rattle.pd_restore.proofs.ReadingLemmas.{no_room_asked, over_if_short}
 use Rattle.pd_restore.proofs.SharedLemmas.{as_gathered, bare_follows, end_follows, few_after, taken_lines}
-use Rattle.pd_spells.specs.ThinText.{end_line}
+use Rattle.pd_grammar.specs.ThinText.{end_line}
 use Rattle.pd_restore.proofs.shared.SharedLinesGathering.take_end.Goals as goal
 
 pub returns-in_err-within-clause-need : goal.returns-in_err-within-clause-need

@@ -1,5 +1,5 @@
 use Rattle.pd_draft.specs.DraftState.{draft_state}
-use Rattle.pd_restore.proofs.SharedWhole.{can_write_parts, parts_written}
+use Rattle.pd_restore.proofs.SharedLemmas.{can_write_parts, parts_written}
 use Rattle.pd_restore.proofs.shared.SharedLinesGathering.write_parts.Goals as goal
 
 pub write_behind-requires-clause-room : goal.write_behind-requires-clause-room

@@ -1,4 +1,4 @@
-use Rattle.pd_restore.proofs.NeedLemmas.{need_exact, need_some}
+use Rattle.pd_restore.proofs.BeginLemmas.{need_exact, need_some}
 use Rattle.pd_restore.proofs.thin.PoolsRestoring.need.Goals as goal
 
 pub returns-clause-need : goal.returns-clause-need

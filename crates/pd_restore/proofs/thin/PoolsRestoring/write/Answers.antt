@@ -1,9 +1,9 @@
 use Rattle.std.proofs.Common.{arith}
 use Rattle.pd_draft.specs.DraftState.{draft_state}
-use Rattle.pd_restore.specs.declared.begin.Rest.TheVariants.{Text, Saved, Shape}
+use Rattle.pd_restore.specs.declared.thin.Rest.TheVariants.{Text, Saved, Shape}
 use Rattle.pd_restore.specs.Whole.{begun_lines, head_of_pool}
 use Rattle.pd_restore.proofs.BeginLemmas.{first_version, second_version}
-use Rattle.pd_restore.proofs.PoolLemmas.{rest_writes}
+use Rattle.pd_restore.proofs.UnsharedParts.{rest_writes}
 use Rattle.pd_restore.proofs.thin.PoolsRestoring.write.Goals as goal
 
 pub write_text-requires-else-version-eq2-clause-begun : goal.write_text-requires-else-version-eq2-clause-begun

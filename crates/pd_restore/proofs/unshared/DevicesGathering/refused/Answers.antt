@@ -1,6 +1,6 @@
 use Rattle.std.proofs.Common.{subst, sym, ℕ, ◌≤◌}
-use Rattle.pd_texts.specs.declared.fault.ReadFault.TheVariants.{Text}
-use Rattle.pd_restore.specs.Unshared.{HasUnshared}
+use Rattle.pd_texts.specs.declared.reader.ReadFault.TheVariants.{Text}
+use Rattle.pd_restore.specs.Reading.{HasUnshared}
 use Rattle.pd_restore.proofs.ReadingLemmas.{line_says}
 use Rattle.pd_restore.proofs.UnsharedLines.{end_need}
 use Rattle.pd_restore.proofs.unshared.DevicesGathering.refused.Goals as goal

@@ -1,5 +1,5 @@
 use Rattle.pd_restore.proofs.ReadingLemmas.{no_room_asked}
-use Rattle.pd_restore.proofs.UnsharedLemmas.{as_gathered, end_fits, end_follows}
+use Rattle.pd_restore.proofs.UnsharedLines.{as_gathered, end_fits, end_follows}
 use Rattle.pd_restore.proofs.unshared.DevicesGathering.take_end.Goals as goal
 
 pub end-requires-clause-gathered : goal.end-requires-clause-gathered

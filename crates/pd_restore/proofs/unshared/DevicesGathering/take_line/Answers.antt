@@ -1,9 +1,9 @@
 use Rattle.std.proofs.Common.{◌∷◌, ◌-◌, ◌^◌, min}
 use Rattle.pd_draft.specs.DraftState.{draft_state}
-use Rattle.pd_spells.specs.ThinNeed.{thin_need_so_far}
+use Rattle.pd_grammar.specs.Need.{thin_need_so_far}
 use Rattle.pd_texts.specs.ThinLine.{line_of}
 use Rattle.pd_restore.proofs.ReadingLemmas.{no_room_asked, over_if_short}
-use Rattle.pd_restore.proofs.UnsharedLemmas.{few_after, line_fits}
+use Rattle.pd_restore.proofs.UnsharedLines.{few_after, line_fits}
 use Rattle.pd_restore.proofs.unshared.DevicesGathering.take_line.Goals as goal
 
 pub returns-clause-need : goal.returns-clause-need

@@ -1,5 +1,5 @@
 use Rattle.std.proofs.Common.{refl}
-use Rattle.pd_salvage.specs.Known.{is_undamaged}
+use Rattle.pd_salvage.specs.Way.{is_undamaged}
 use Rattle.pd_salvage.specs.Way.{frontier}
 use Rattle.pd_salvage.proofs.cursor.SavedCursor.forget.Goals as goal
 

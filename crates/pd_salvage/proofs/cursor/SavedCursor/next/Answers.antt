@@ -1,4 +1,4 @@
-use Rattle.pd_tree.proofs.NextLemmas.{if_any}
+use Rattle.pd_kinds.proofs.ResultLemmas.{if_any}
 use Rattle.pd_salvage.proofs.cursor.SavedCursor.next.Goals as goal
 
 pub next_known-requires-clause-knows : goal.next_known-requires-clause-knows

@@ -1,7 +1,7 @@
 use Rattle.std.proofs.Common.{None, IfSome, subst}
 use Rattle.pd_tree.specs.Cursor.{root_left}
 use Rattle.pd_tree.proofs.NextLemmas.{if_both}
-use Rattle.pd_salvage.specs.Ascending.{IsNextFrom}
+use Rattle.pd_salvage.specs.Range.{IsNextFrom}
 use Rattle.pd_salvage.specs.Range.{all_keys, saved_below}
 use Rattle.pd_salvage.specs.Way.{saved_on}
 use Rattle.pd_salvage.proofs.AscendLemmas.{none_answer, none_below}

@@ -1,6 +1,6 @@
-use Rattle.pd_salvage.specs.Known.{is_undamaged}
+use Rattle.pd_salvage.specs.Way.{is_undamaged}
 use Rattle.pd_salvage.proofs.AscendLemmas.{started}
-use Rattle.pd_salvage.proofs.ToldLemmas.{saved_none}
+use Rattle.pd_salvage.proofs.RangeLemmas.{saved_none}
 use Rattle.pd_salvage.proofs.cursor.SavedCursor.restart.Goals as goal
 
 pub returns-clause-left : goal.returns-clause-left

@@ -1,5 +1,5 @@
 use Rattle.pd_salvage.proofs.AscendLemmas.{started}
-use Rattle.pd_salvage.proofs.ToldLemmas.{saved_none}
+use Rattle.pd_salvage.proofs.RangeLemmas.{saved_none}
 use Rattle.pd_salvage.proofs.cursor.SavedCursor.start.Goals as goal
 
 pub returns-clause-left : goal.returns-clause-left

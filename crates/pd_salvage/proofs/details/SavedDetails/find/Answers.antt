@@ -2,11 +2,11 @@ use Rattle.std.proofs.Common.{ℕ, None, IfSome, subst}
 use Rattle.std.proofs.lemmas.Option.{IfSome_then}
 use Rattle.pd_value.specs.declared.thin.Details.{Details}
 use Rattle.pd_tree.proofs.NextLemmas.{if_both}
-use Rattle.pd_tree.specs.Next.{IsNext}
-use Rattle.pd_thin_meaning.specs.Items.{details_of}
+use Rattle.pd_tree.specs.Stack.{IsNext}
+use Rattle.pd_meaning_thin.specs.Runs.{details_of}
 use Rattle.pd_salvage.specs.Cursor.{saved_left}
 use Rattle.pd_salvage.specs.Details.{details_left}
-use Rattle.pd_salvage.proofs.DetailsLemmas.{found_end, found_known}
+use Rattle.pd_salvage.proofs.AscendLemmas.{found_end, found_known}
 use Rattle.pd_salvage.proofs.details.SavedDetails.find.Goals as goal
 
 pub returns-in-Past-clause-found : goal.returns-in-Past-clause-found

@@ -1,5 +1,5 @@
 use Rattle.std.proofs.Common.{refl, arith}
-use Rattle.pd_salvage.proofs.DetailsLemmas.{knows_here, knows_nothing, knows_past}
+use Rattle.pd_salvage.proofs.AscendLemmas.{knows_here, knows_nothing, knows_past}
 use Rattle.pd_salvage.proofs.details.SavedDetails.known.Goals as goal
 
 pub returns-then-key-id : goal.returns-then-key-id

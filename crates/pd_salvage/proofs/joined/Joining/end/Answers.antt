@@ -1,4 +1,4 @@
-use Rattle.pd_salvage.proofs.JoiningLemmas.{ends_with}
+use Rattle.pd_salvage.proofs.GatherLemmas.{ends_with}
 use Rattle.pd_salvage.proofs.joined.Joining.end.Goals as goal
 
 pub returns-in_ok-push : goal.returns-in_ok-push

@@ -1,5 +1,5 @@
 use Rattle.std.proofs.Common.{sym}
-use Rattle.pd_salvage.proofs.JoiningLemmas.{joins_apart, joins_on}
+use Rattle.pd_salvage.proofs.GatherLemmas.{joins_apart, joins_on}
 use Rattle.pd_salvage.proofs.joined.Joining.take.Goals as goal
 
 pub returns-then-follows : goal.returns-then-follows

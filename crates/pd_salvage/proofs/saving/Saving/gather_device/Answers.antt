@@ -1,5 +1,5 @@
 use Rattle.std.proofs.lemmas.Result.{IfOk-weaker}
-use Rattle.pd_tree.proofs.NextLemmas.{if_any}
+use Rattle.pd_kinds.proofs.ResultLemmas.{if_any}
 use Rattle.pd_salvage.specs.Cursor.{saved_least}
 use Rattle.pd_salvage.specs.Gather.{IsGathered, to_come}
 use Rattle.pd_salvage.specs.Saving.{mappings_at}

@@ -1,10 +1,10 @@
 use Rattle.std.proofs.Common.{◌≡◌, ℕ, None, Some, IfSome, sym, subst, ◌∙◌}
 use Rattle.std.proofs.lemmas.Bool.{not-false, not-true}
-use Rattle.pd_image.proofs.ReadLemmas.{only_reads_both}
-use Rattle.pd_kinds.specs.Edge.{is_outside}
+use Rattle.pd_image.proofs.CrashLemmas.{only_reads_both}
+use Rattle.pd_kinds.specs.Graph.{is_outside}
 use Rattle.pd_value.specs.declared.thin.Root.{Root}
-use Rattle.pd_tree.specs.Items.{root_of}
-use Rattle.pd_tree.specs.Next.{IsNext}
+use Rattle.pd_tree.specs.Cursor.{root_of}
+use Rattle.pd_tree.specs.Stack.{IsNext}
 use Rattle.pd_laid.specs.Salvage.{salvage_from}
 use Rattle.pd_salvage.specs.Saved.{pool_of}
 use Rattle.pd_salvage.specs.Saving.{head_of}

@@ -1,9 +1,9 @@
 use Rattle.std.proofs.Common.{◌<◌, length, refl, arith}
-use Rattle.pd_tree.specs.NodePlace.{whole_place}
+use Rattle.pd_tree.specs.Below.{whole_place}
 use Rattle.pd_tree.specs.Stack.{last_place, place_at}
 use Rattle.pd_tree.proofs.StackLemmas.{weigh_same}
 use Rattle.pd_salvage.specs.Way.{frontier}
-use Rattle.pd_salvage.proofs.KnownLemmas.{before_same, known_same, last_is, set_same}
+use Rattle.pd_salvage.proofs.WayLemmas.{before_same, known_same, last_is, set_same}
 use Rattle.pd_salvage.proofs.WayLemmas.{pushed_left, pushed_under}
 use Rattle.pd_salvage.proofs.way.Way.again.Goals as goal
 

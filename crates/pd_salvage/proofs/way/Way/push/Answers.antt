@@ -2,7 +2,7 @@ use Rattle.std.proofs.Common.{refl, arith}
 use Rattle.pd_tree.proofs.StackLemmas.{weigh_same}
 use Rattle.pd_tree.specs.Stack.{last_place}
 use Rattle.pd_salvage.specs.Way.{frontier}
-use Rattle.pd_salvage.proofs.KnownLemmas.{known_below}
+use Rattle.pd_salvage.proofs.WayLemmas.{known_below}
 use Rattle.pd_salvage.proofs.WayLemmas.{pushed_left, pushed_under}
 use Rattle.pd_salvage.proofs.way.Way.push.Goals as goal
 

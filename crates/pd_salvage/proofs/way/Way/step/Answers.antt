@@ -2,7 +2,7 @@ use Rattle.std.proofs.Common.{refl, sym, arith}
 use Rattle.pd_kinds.specs.Node.{value_at}
 use Rattle.pd_tree.specs.Stack.{last_place}
 use Rattle.pd_salvage.specs.Way.{frontier}
-use Rattle.pd_salvage.proofs.KnownLemmas.{known_same, passed_same, taken_same}
+use Rattle.pd_salvage.proofs.WayLemmas.{known_same, passed_same, taken_same}
 use Rattle.pd_salvage.proofs.WayLemmas.{child_left, child_taken, entry_left, outside_left, passed_left}
 use Rattle.pd_salvage.proofs.way.Way.step.Goals as goal
 

@@ -1,6 +1,6 @@
 use Rattle.std.proofs.Common.{◌∷◌, [], sym, ◌∙◌, arith}
 use Rattle.std.proofs.lemmas.List.{length-append}
-use Rattle.pd_thin_meaning.specs.Joined.{mapping_of}
+use Rattle.pd_meaning_thin.specs.Runs.{mapping_of}
 use Rattle.pd_salvage_shapes.proofs.NoteLemmas.{end_more, first_more}
 use Rattle.pd_salvage_shapes.proofs.note.LeafGathering.take.Goals as goal
 

@@ -1,5 +1,5 @@
 use Rattle.std.proofs.Common.{refl}
-use Rattle.pd_salvage_shapes.proofs.NumberLemmas.{next_number}
+use Rattle.pd_salvage_shapes.proofs.VisitingLemmas.{next_number}
 use Rattle.pd_salvage_shapes.proofs.numbers.Numbers.add.Goals as goal
 
 pub returns-then-goes_on_with : goal.returns-then-goes_on_with

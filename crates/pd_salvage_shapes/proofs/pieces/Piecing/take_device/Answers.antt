@@ -2,11 +2,11 @@ use Rattle.std.proofs.Common.{◌≡◌, ℕ, ◌++◌, List, Some, None, cond, 
 use Rattle.std.specs.List.{slice_get}
 use Rattle.std.proofs.lemmas.List.{length-append, take_all}
 use Rattle.std.proofs.lemmas.Option.{slice_get-get_or}
-use Rattle.pd_salvage_shapes.specs.Mets.{Met}
+use Rattle.pd_salvage_shapes.specs.Note.{Met}
 use Rattle.pd_salvage_shapes.specs.Pieces.{AreNumbers, HasPieces, IsPiecing}
 use Rattle.pd_salvage_shapes.specs.Visiting.{mets_of}
 use Rattle.pd_salvage_shapes.proofs.MetPieces.{begins, has_pieces, some_met}
-use Rattle.pd_salvage_shapes.proofs.UseLemmas.{mets_next}
+use Rattle.pd_salvage_shapes.proofs.LeafTable.{mets_next}
 use Rattle.pd_salvage_shapes.proofs.pieces.Piecing.take_device.Goals as goal
 
 pub loop-k-init : goal.loop-k-init

@@ -1,5 +1,5 @@
 use Rattle.std.proofs.Common.{refl}
-use Rattle.pd_runs.specs.Places.{runs_from}
+use Rattle.pd_meaning_thin.specs.Packed.{runs_from}
 use Rattle.pd_salvage_shapes.proofs.MetPieces.{takes_all, takes_next, takes_none}
 use Rattle.pd_salvage_shapes.proofs.pieces.Piecing.take_runs.Goals as goal
 

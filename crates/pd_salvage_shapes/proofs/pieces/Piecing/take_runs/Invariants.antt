@@ -1,5 +1,5 @@
 use Rattle.std.proofs.Common.{◌≡◌, length}
-use Rattle.pd_runs.specs.Places.{runs_from}
+use Rattle.pd_meaning_thin.specs.Packed.{runs_from}
 use Rattle.pd_salvage_shapes.specs.Pieces.{AreRuns}
 use Rattle.pd_salvage_shapes.proofs.MetPieces.{TakesFirst}
 use Rattle.pd_salvage_shapes.proofs.pieces.Piecing.take_runs.Given as goal

@@ -1,9 +1,9 @@
 use Rattle.std.proofs.Common.{[], refl, ap, ◌∙◌, subst}
 use Rattle.std.specs.List.{flat_map}
 use Rattle.std.proofs.lemmas.Option.{IfSome_then}
-use Rattle.pd_image.proofs.ReadLemmas.{only_reads_both}
+use Rattle.pd_image.proofs.CrashLemmas.{only_reads_both}
 use Rattle.pd_salvage.specs.Way.{told}
-use Rattle.pd_salvage_shapes.specs.Mets.{mets_below}
+use Rattle.pd_salvage_shapes.specs.Note.{mets_below}
 use Rattle.pd_salvage_shapes.specs.Visiting.{Meets, is_undamaged_inner}
 use Rattle.pd_salvage_shapes.proofs.TreeLemmas.{down_all, ended_all, passed_all}
 use Rattle.pd_salvage_shapes.proofs.visiting.Visiting.go_on.Goals as goal

@@ -1,7 +1,7 @@
 use Rattle.std.proofs.Common.{◌≡◌, List, IfSome}
 use Rattle.pd_image.specs.Device.{OnlyReads}
 use Rattle.pd_salvage.specs.Way.{way_number}
-use Rattle.pd_salvage_shapes.specs.Mets.{Met}
+use Rattle.pd_salvage_shapes.specs.Note.{Met}
 use Rattle.pd_salvage_shapes.specs.Visiting.{Grow, IsReady, KnowsInner, MeetsAll}
 use Rattle.pd_salvage_shapes.proofs.visiting.Visiting.go_on.Given as goal
 

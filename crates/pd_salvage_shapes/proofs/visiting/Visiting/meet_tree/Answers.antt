@@ -1,5 +1,5 @@
 use Rattle.std.proofs.Common.{subst}
-use Rattle.pd_tree.proofs.NextLemmas.{if_any}
+use Rattle.pd_kinds.proofs.ResultLemmas.{if_any}
 use Rattle.pd_salvage_shapes.specs.Visiting.{GoesOn, is_undamaged_inner}
 use Rattle.pd_salvage_shapes.proofs.TreeLemmas.{tree_met}
 use Rattle.pd_salvage_shapes.proofs.visiting.Visiting.meet_tree.Goals as goal

@@ -1,6 +1,6 @@
 use Rattle.std.proofs.Common.{◌≡◌, ◌+◌, length, set, refl, ◌∙◌, arith}
 use Rattle.std.proofs.lemmas.List.{length-set}
-use Rattle.pd_salvage_shapes.proofs.TellLemmas.{note_tells}
+use Rattle.pd_salvage_shapes.proofs.TreeLemmas.{note_tells}
 use Rattle.pd_salvage_shapes.proofs.VisitLemmas.{grown, leaf_named, leaf_notes, leaf_tells, met_grown}
 use Rattle.pd_salvage_shapes.proofs.visiting.Visiting.note_top.Goals as goal
 

@@ -6,11 +6,11 @@ use Rattle.pd_laid.specs.Salvage.{is_damaged}
 use Rattle.pd_tree.specs.Stack.{last_place}
 use Rattle.pd_tree.proofs.NextLemmas.{if_both}
 use Rattle.pd_salvage.specs.declared.way.Way.{Way}
-use Rattle.pd_salvage.specs.Steps.{PushesNode}
+use Rattle.pd_salvage.specs.Way.{PushesNode}
 use Rattle.pd_salvage.specs.Way.{frontier}
 use Rattle.pd_salvage_shapes.specs.Visiting.{is_undamaged_inner}
 use Rattle.pd_salvage.proofs.RangeLemmas.{wanted}
-use Rattle.pd_salvage.proofs.ToldLemmas.{pushed_popped}
+use Rattle.pd_salvage.proofs.RangeLemmas.{pushed_popped}
 use Rattle.pd_salvage_shapes.proofs.VisitLemmas.{inner_pushed}
 use Rattle.pd_salvage_shapes.proofs.visiting.Visiting.read_new.Goals as goal
 

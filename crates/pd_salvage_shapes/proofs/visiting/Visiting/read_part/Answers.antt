@@ -2,7 +2,7 @@ use Rattle.std.proofs.Common.{refl}
 use Rattle.std.proofs.lemmas.Bool.{false≢true}
 use Rattle.std.proofs.lemmas.Option.{IfSome_then}
 use Rattle.pd_salvage_shapes.proofs.NoteLemmas.{part_inside}
-use Rattle.pd_salvage.proofs.ToldLemmas.{pushed_popped}
+use Rattle.pd_salvage.proofs.RangeLemmas.{pushed_popped}
 use Rattle.pd_salvage_shapes.proofs.visiting.Visiting.read_part.Goals as goal
 
 pub returns-clause-reads : goal.returns-clause-reads

@@ -2,7 +2,7 @@ use Rattle.std.proofs.Common.{true, false, map, sym, ap, ◌∙◌, arith}
 use Rattle.std.specs.Option.{is_some}
 use Rattle.std.proofs.lemmas.Bool.{eqb-true}
 use Rattle.pd_kinds.proofs.CrashLemmas.{still_tells}
-use Rattle.pd_answers.specs.MovedPool.{copy_of_move}
+use Rattle.pd_answers.specs.Shrinks.{copy_of_move}
 use Rattle.pd_writeback.proofs.PlanLemmas.{kept_here, kept_synced}
 use Rattle.pd_shrink.specs.Moves.{moves_in}
 use Rattle.pd_shrink.proofs.CopiedLemmas.{copied_synced, left_of_ground, none_moved, number_moved}

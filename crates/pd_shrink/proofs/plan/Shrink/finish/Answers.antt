@@ -1,6 +1,6 @@
 use Rattle.std.proofs.Common.{◌≡◌, ℕ, refl, sym, subst, arith}
 use Rattle.std.specs.List.{AllByRecursion}
-use Rattle.pd_kinds.specs.Limits.{room_of}
+use Rattle.pd_kinds.specs.Image.{room_of}
 use Rattle.pd_shrink.specs.Kept.{kept_making}
 use Rattle.pd_shrink.specs.Moves.{IsAcross, moves_in}
 use Rattle.pd_shrink.proofs.PlanLemmas.{end_of_moved, need_finished, room_enough}

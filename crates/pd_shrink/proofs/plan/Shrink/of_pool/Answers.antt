@@ -1,9 +1,9 @@
 use Rattle.std.proofs.Common.{ap, sym, ◌∙◌, arith}
 use Rattle.std.proofs.lemmas.Result.{err_from_is_err_and}
-use Rattle.pd_answers.specs.CachedView.{blocks_each, is_block_size_bad}
+use Rattle.pd_answers.specs.Writebacks.{blocks_each, is_block_size_bad}
 use Rattle.pd_shrink.specs.Kept.{moved_in, shared_of}
 use Rattle.pd_shrink.specs.Moves.{moves_in}
-use Rattle.pd_shrink.proofs.KeptLemmas.{pool_number, pool_size}
+use Rattle.pd_shrink.proofs.RoomLemmas.{pool_number, pool_size}
 use Rattle.pd_shrink.proofs.PlanLemmas.{finished_counts, finished_plans, lacks_pool_size, missed_plans}
 use Rattle.pd_shrink.proofs.plan.Shrink.of_pool.Goals as goal
 

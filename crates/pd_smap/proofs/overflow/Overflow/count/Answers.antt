@@ -1,5 +1,5 @@
 use Rattle.std.proofs.Common.{◌∙◌, arith, rules, sym}
-use Rattle.pd_smap.proofs.OverflowLeftLemmas.{if_then, if_maps}
+use Rattle.pd_kinds.proofs.ResultLemmas.{if_maps, if_then}
 use Rattle.pd_smap.proofs.overflow.Overflow.count.Goals as goal
 
 pub loop-self-preserved : goal.loop-self-preserved

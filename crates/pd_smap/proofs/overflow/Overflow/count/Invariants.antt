@@ -1,6 +1,6 @@
 use Rattle.std.proofs.Common.{◌≡◌, ℕ, ◌+◌, ◌≤◌, Option, IfSome}
 use Rattle.pd_image.specs.Device.{OnlyReads}
-use Rattle.pd_smap.specs.OverflowLeft.{IsAhead}
+use Rattle.pd_smap.specs.Steps.{IsAhead}
 use Rattle.pd_smap.specs.Overflow.{overflow_items, overflow_number, overflow_reads}
 use Rattle.pd_smap.proofs.overflow.Overflow.count.Given as goal
 

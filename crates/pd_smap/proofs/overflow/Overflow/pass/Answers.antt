@@ -1,4 +1,5 @@
-use Rattle.pd_smap.proofs.OverflowLeftLemmas.{if_maps, pass_ahead}
+use Rattle.pd_kinds.proofs.ResultLemmas.{if_maps}
+use Rattle.pd_smap.proofs.OverflowLeftLemmas.{pass_ahead}
 use Rattle.pd_smap.proofs.overflow.Overflow.pass.Goals as goal
 
 pub returns-clause-ahead : goal.returns-clause-ahead

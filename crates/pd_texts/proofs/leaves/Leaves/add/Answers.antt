@@ -1,7 +1,7 @@
 use Rattle.std.proofs.Common.{◌≡◌, ◌-◌, ◌≤◌, length, get_or, set, refl, ◌∙◌, arith}
 use Rattle.std.proofs.lemmas.List.{get_or_read}
-use Rattle.pd_texts.specs.Leaves.{nothing_told, with_run}
-use Rattle.pd_texts.proofs.LeafLemmas.{run_added}
+use Rattle.pd_texts.specs.ThinState.{nothing_told, with_run}
+use Rattle.pd_texts.proofs.StateLemmas.{run_added}
 use Rattle.pd_texts.proofs.leaves.Leaves.add.Goals as goal
 
 pub returns-then-leaves-ne0 : goal.returns-then-leaves-ne0

@@ -1,8 +1,8 @@
 use Rattle.std.proofs.Common.{◌≡◌, ◌+◌, true, not, ◌∷◌, [], ◌++◌, is_ok, sym, ◌∙◌, arith}
 use Rattle.std.proofs.lemmas.List.Sums.{count_by-le-length}
 use Rattle.pd_texts.specs.declared.leaves.ToldLeaf.{ToldLeaf}
-use Rattle.pd_texts.specs.Leaves.{nothing_told}
-use Rattle.pd_texts.proofs.LeafLemmas.{leaf_begun}
+use Rattle.pd_texts.specs.ThinState.{nothing_told}
+use Rattle.pd_texts.proofs.StateLemmas.{leaf_begun}
 use Rattle.pd_texts.proofs.leaves.Leaves.begin.Goals as goal
 
 pub returns-then-is_ok : goal.returns-then-is_ok

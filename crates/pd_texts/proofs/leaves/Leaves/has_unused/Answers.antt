@@ -1,4 +1,4 @@
-use Rattle.pd_texts.proofs.LeafLemmas.{unused_is}
+use Rattle.pd_texts.proofs.StateLemmas.{unused_is}
 use Rattle.pd_texts.proofs.leaves.Leaves.has_unused.Goals as goal
 
 pub returns : goal.returns

@@ -1,7 +1,7 @@
 use Rattle.std.proofs.Common.{set, sym, ap, ◌∙◌}
 use Rattle.std.proofs.lemmas.Bool.{not-true}
 use Rattle.pd_texts.specs.declared.leaves.ToldLeaf.{ToldLeaf}
-use Rattle.pd_texts.proofs.LeafLemmas.{leaf_marked, marked}
+use Rattle.pd_texts.proofs.StateLemmas.{leaf_marked, marked}
 use Rattle.pd_texts.proofs.leaves.Leaves.mark.Goals as goal
 
 pub returns-then-not-leaf : goal.returns-then-not-leaf

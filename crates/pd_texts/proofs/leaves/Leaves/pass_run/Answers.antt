@@ -1,5 +1,5 @@
 use Rattle.std.proofs.Common.{sym, ◌∙◌}
-use Rattle.pd_texts.proofs.LeafLemmas.{device_run}
+use Rattle.pd_texts.proofs.StateLemmas.{device_run}
 use Rattle.pd_texts.proofs.leaves.Leaves.pass_run.Goals as goal
 
 pub returns-then-not-in_device : goal.returns-then-not-in_device

@@ -1,6 +1,6 @@
 use Rattle.std.proofs.Common.{◌≡◌, ◌∙◌, sym, subst, [], List, MatchResult, OnOk}
 use Rattle.pd_texts.specs.Reader.{ReadsOn, LeavesOf, RefusesAfter, begun}
-use Rattle.pd_texts.proofs.GivesLemmas.{none_before}
+use Rattle.pd_texts.proofs.TextLemmas.{none_before}
 use Rattle.pd_texts.proofs.reader.TextReader.begin.Goals as goal
 
 pub returns-then-is_first-clause-lines : goal.returns-then-is_first-clause-lines

@@ -1,6 +1,6 @@
 use Rattle.std.proofs.Common.{inl}
 use Rattle.pd_texts.specs.Reader.{begun}
-use Rattle.pd_texts.proofs.GivesLemmas.{some_begun, line_begun, text_begun}
+use Rattle.pd_texts.proofs.TextLemmas.{some_begun, line_begun, text_begun}
 use Rattle.pd_texts.proofs.PastLemmas.{past_before}
 use Rattle.pd_texts.proofs.reader.TextReader.next.Goals as goal
 

@@ -1,5 +1,5 @@
 use Rattle.std.proofs.Common.{inl, Some}
-use Rattle.pd_texts.proofs.GivesLemmas.{gives_line, gives_last, gives_more, gives_end}
+use Rattle.pd_texts.proofs.TextLemmas.{gives_line, gives_last, gives_more, gives_end}
 use Rattle.pd_texts.proofs.PastLemmas.{past_before}
 use Rattle.pd_texts.proofs.reader.TextReader.next_value.Goals as goal
 

@@ -1,6 +1,6 @@
 use Rattle.std.proofs.Common.{arith, ◌∙◌, ◌++◌, ◌∷◌, None}
-use Rattle.pd_grammar.proofs.NumberLemmas.{ok-err}
-use Rattle.pd_lines.specs.declared.fault.LineFault.TheVariants.{Source}
+use Rattle.pd_grammar.proofs.WordLemmas.{ok-err}
+use Rattle.pd_lines.specs.declared.reader.LineFault.TheVariants.{Source}
 use Rattle.pd_lines.specs.Reader.{held_of, line_of, next_number}
 use Rattle.pd_texts.proofs.TextLemmas.{line_after, end_after, fault_after, count_is}
 use Rattle.pd_texts.proofs.PastLemmas.{past_end}

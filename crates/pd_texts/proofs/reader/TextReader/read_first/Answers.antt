@@ -1,11 +1,11 @@
 use Rattle.std.proofs.Common.{arith, ◌≡◌, ◌∙◌, ◌++◌, [], Ok}
 use Rattle.pd_grammar.specs.declared.cause.TextCause.TheVariants.{Header}
 use Rattle.pd_grammar.specs.Texts.{read}
-use Rattle.pd_grammar.proofs.NumberLemmas.{ok-err}
-use Rattle.pd_lines.specs.declared.fault.LineFault.TheVariants.{Source}
+use Rattle.pd_grammar.proofs.WordLemmas.{ok-err}
+use Rattle.pd_lines.specs.declared.reader.LineFault.TheVariants.{Source}
 use Rattle.pd_lines.specs.Reader.{held_of, line_of, next_number}
 use Rattle.pd_texts.specs.declared.reader.TextReader.{TextReader}
-use Rattle.pd_texts.proofs.ReadLemmas.{first_ok, first_err}
+use Rattle.pd_texts.proofs.ValueLemmas.{first_ok, first_err}
 use Rattle.pd_texts.proofs.TextLemmas.{line_refuses, end_refuses, fault_refuses, count_is, has_read_more, leaves_more}
 use Rattle.pd_texts.proofs.PastLemmas.{past_of}
 use Rattle.pd_texts.proofs.reader.TextReader.read_first.Goals as goal

@@ -1,11 +1,11 @@
 use Rattle.std.proofs.Common.{arith, ◌≡◌, ◌∙◌, ◌++◌, sym, Ok, Err}
 use Rattle.pd_grammar.specs.declared.cause.TextCause.TheVariants.{Word}
 use Rattle.pd_grammar.specs.Texts.{read}
-use Rattle.pd_grammar.proofs.NumberLemmas.{ok-err}
-use Rattle.pd_lines.specs.declared.fault.LineFault.TheVariants.{Source}
+use Rattle.pd_grammar.proofs.WordLemmas.{ok-err}
+use Rattle.pd_lines.specs.declared.reader.LineFault.TheVariants.{Source}
 use Rattle.pd_lines.specs.Reader.{held_of, line_of, next_number}
 use Rattle.pd_texts.specs.declared.reader.TextReader.{TextReader}
-use Rattle.pd_texts.proofs.ReadLemmas.{other_bytes}
+use Rattle.pd_texts.proofs.ValueLemmas.{other_bytes}
 use Rattle.pd_texts.proofs.TextLemmas.{line_refuses, end_refuses, fault_refuses, count_is, has_read_more, leaves_more}
 use Rattle.pd_texts.proofs.PastLemmas.{past_of}
 use Rattle.pd_texts.proofs.reader.TextReader.read_later.Goals as goal
@@ -16,7 +16,7 @@ returns-in-Ok-read_line-clause-lines g c = λ before some on.
     let new : TextReader g.row.P.Denot g.row.P-Line.Denot = record { reader = c.advance.new.self; state = c.read_line.new.state } in
     let counted = c.in-Ok-true.ensures.counted (ok-err c.in-Ok-true.field-0 Source) in
     has_read_more t.format t.Stands before (t.meant c.in-Ok-read_line.line) c.args.self.now new c.text.result.now on counted c.text.ensures.short
-    (sym (c.in-Ok-read_line.ensures.line before (c.make_room.ensures.stands before on.so_far.stands) some)) (c.in-Ok-read_line.ensures.after before (c.make_room.ensures.stands before on.so_far.stands) some)
+    (sym (c.in-Ok-read_line.ensures.line before (c.take_memory.ensures.stands before on.so_far.stands) some)) (c.in-Ok-read_line.ensures.after before (c.take_memory.ensures.stands before on.so_far.stands) some)
 
 pub returns-in-Ok-read_line-clause-text : goal.returns-in-Ok-read_line-clause-text
 returns-in-Ok-read_line-clause-text g c = λ text before some on leaves.
@@ -25,7 +25,7 @@ returns-in-Ok-read_line-clause-text g c = λ text before some on leaves.
     let line = t.meant c.in-Ok-read_line.line in
     let new : TextReader g.row.P.Denot g.row.P-Line.Denot = record { reader = c.advance.new.self; state = c.read_line.new.state } in
     let reads = rw c.in-Ok-true.field-0-test at (c.in-Ok-true.ensures.reads leaves.rest leaves.left_is) in
-    let is : read t.format before bytes ≡ Ok line = sym (rw c.text.ensures.bytes at (c.in-Ok-read_line.ensures.line before (c.make_room.ensures.stands before on.so_far.stands) some)) in
+    let is : read t.format before bytes ≡ Ok line = sym (rw c.text.ensures.bytes at (c.in-Ok-read_line.ensures.line before (c.take_memory.ensures.stands before on.so_far.stands) some)) in
     leaves_more t.format text before line c.args.self.now new (g.S.Source.state c.args.source.now).left (g.S.Source.state c.advance.new.source).left
     bytes c.advance.new.self.lines on.going leaves reads is
 
@@ -36,7 +36,7 @@ returns-in-Err-read_line-clause-text g c = λ text before some on leaves.
     let bytes = line_of c.advance.new.self in
     let reads = rw c.in-Ok-true.field-0-test at (c.in-Ok-true.ensures.reads leaves.rest leaves.left_is) in
     let counted = c.in-Ok-true.ensures.counted (ok-err c.in-Ok-true.field-0 Source) in
-    let is : read t.format before bytes ≡ Err c.in-Err-read_line.cause = sym (rw c.text.ensures.bytes at (c.in-Err-read_line.ensures.line before (c.make_room.ensures.stands before on.so_far.stands) some)) in
+    let is : read t.format before bytes ≡ Err c.in-Err-read_line.cause = sym (rw c.text.ensures.bytes at (c.in-Err-read_line.ensures.line before (c.take_memory.ensures.stands before on.so_far.stands) some)) in
     rw c.text_fault.ensures
     (line_refuses t.format text (held_of old ++ leaves.rest) bytes (held_of c.advance.new.self ++ reads.rest) before c.lines.result c.in-Err-read_line.cause leaves.is on.going
     (c.lines.ensures ∙ counted ∙ count_is before old.lines on.so_far.count) reads.text_is reads.printable reads.short is)

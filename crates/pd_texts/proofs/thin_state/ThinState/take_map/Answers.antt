@@ -1,6 +1,6 @@
 use Rattle.std.proofs.Common.{get_or, refl, arith, ◌^◌, ◌≤◌, ◌+◌}
 use Rattle.std.proofs.lemmas.Bool.Decides.{nat_tests}
-use Rattle.pd_texts.specs.declared.thin_line.Run2.{Run2}
+use Rattle.pd_texts.specs.declared.thin_text.Run2.{Run2}
 use Rattle.pd_texts.proofs.StateLemmas.{map_passed}
 use Rattle.pd_texts.proofs.thin_state.ThinState.take_map.Goals as goal
 

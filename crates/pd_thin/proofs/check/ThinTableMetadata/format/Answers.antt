@@ -1,8 +1,8 @@
 use Rattle.std.proofs.Common.{ap, ◌∙◌}
 use Rattle.pd_kinds.specs.Layout.{graph_of}
-use Rattle.pd_kinds.specs.ThinSuper.{ThinFields}
+use Rattle.pd_kinds.specs.ThinFormat.{ThinFields}
 use Rattle.pd_kinds.specs.ThinFormat.{thin_graph, thin_layout}
-use Rattle.pd_laws.proofs.ThinTable.{super_sound}
+use Rattle.pd_kinds.proofs.ThinTable.{super_sound}
 use Rattle.pd_thin.proofs.check.ThinTableMetadata.format.Goals as goal
 
 pub of-requires-clause-some : goal.of-requires-clause-some

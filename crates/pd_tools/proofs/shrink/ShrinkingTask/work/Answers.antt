@@ -3,7 +3,7 @@ use Rattle.std.proofs.lemmas.Bool.Decides.{nat_tests}
 use Rattle.pd_kinds.specs.declared.kind.Kind.TheVariants.{Thin}
 use Rattle.pd_kinds.specs.declared.kind.Stage.TheVariants.{Counts}
 use Rattle.pd_tools.specs.Opened.{devices}
-use Rattle.pd_tools.proofs.Queries.{none_reported, one_told}
+use Rattle.pd_tools.proofs.Checks.{none_reported, one_told}
 use Rattle.pd_tools.proofs.Shrinks.{shrink_faulty, shrink_unread}
 use Rattle.pd_tools.proofs.Tasks.{still_opened}
 use Rattle.pd_tools.proofs.shrink.ShrinkingTask.work.Goals as goal

@@ -1,6 +1,6 @@
 use Rattle.std.proofs.Common.{IfSome, None, length, ap, subst, arith}
 use Rattle.pd_tree.specs.Cursor.{cursor_items}
-use Rattle.pd_tree.specs.Next.{IsNext}
+use Rattle.pd_tree.specs.Stack.{IsNext}
 use Rattle.pd_tree.proofs.NextLemmas.{if_both}
 use Rattle.pd_tree.proofs.cursor.Cursor.count.Goals as goal
 

@@ -1,12 +1,12 @@
 use Rattle.std.proofs.Common.{◌∙◌, List, ◌++◌, filter, get_or, map, take, ap, ap₂, sym}
 use Rattle.std.proofs.lemmas.List.{take_all, take_more}
-use Rattle.pd_uses.specs.declared.data_use.DataUse.{DataUse}
+use Rattle.pd_uses.specs.declared.hits.DataUse.{DataUse}
 use Rattle.pd_uses.specs.declared.found.Visit.{Visit}
 use Rattle.pd_uses.specs.declared.hits.Hit.{Hit}
-use Rattle.pd_uses.specs.declared.parts.LeafPart.{LeafPart}
+use Rattle.pd_uses.specs.declared.hits.LeafPart.{LeafPart}
 use Rattle.pd_uses.specs.FoundUses.{visits_uses}
 use Rattle.pd_uses.specs.Hits.{use_of}
-use Rattle.pd_uses.specs.Ordered.{is_within}
+use Rattle.pd_uses.specs.Uses.{is_within}
 use Rattle.pd_uses.specs.Parts.{hits_at}
 use Rattle.pd_uses.proofs.FoundLemmas.{no_visits, visits_more}
 use Rattle.pd_uses.proofs.found.Found.uses_in.Goals as goal

@@ -1,6 +1,6 @@
 use Rattle.std.proofs.Common.{◌≡◌, filter, take}
 use Rattle.pd_uses.specs.FoundUses.{visits_uses}
-use Rattle.pd_uses.specs.Ordered.{is_within}
+use Rattle.pd_uses.specs.Uses.{is_within}
 use Rattle.pd_uses.proofs.found.Found.uses_in.Given as goal
 
 abbrev pub invariant-loop-visit : goal.invariant-loop-visit

@@ -1,7 +1,7 @@
 use Rattle.std.proofs.Common.{◌≡◌, List, [], filter, subst}
 use Rattle.pd_uses.specs.declared.hits.Hit.{Hit}
 use Rattle.pd_uses.specs.Hits.{is_hit}
-use Rattle.pd_uses.proofs.PartLemmas.{all_outside}
+use Rattle.pd_uses.proofs.HitLemmas.{all_outside}
 use Rattle.pd_uses.proofs.hits.LeafHits.is_outside.Goals as goal
 
 pub returns : goal.returns

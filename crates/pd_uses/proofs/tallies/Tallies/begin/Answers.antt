@@ -1,5 +1,5 @@
 use Rattle.std.proofs.Common.{refl}
-use Rattle.pd_uses.proofs.TallyingLemmas.{takes_device}
+use Rattle.pd_uses.proofs.ListWalkLemmas.{takes_device}
 use Rattle.pd_uses.proofs.tallies.Tallies.begin.Goals as goal
 
 pub returns : goal.returns

@@ -1,5 +1,5 @@
 use Rattle.std.proofs.Common.{◌<◌, ◌^◌, sym, arith}
-use Rattle.pd_uses.proofs.TallyingLemmas.{takes_first, takes_past, takes_second, takes_several}
+use Rattle.pd_uses.proofs.ListWalkLemmas.{takes_first, takes_past, takes_second, takes_several}
 use Rattle.pd_uses.proofs.tallies.Tallies.take.Goals as goal
 
 pub returns-then-one-size : goal.returns-then-one-size

@@ -5,8 +5,8 @@ use Rattle.std.proofs.lemmas.Option.{IfSome_then}
 use Rattle.pd_kinds.specs.Crash.{HoldsSynced}
 use Rattle.pd_kinds.specs.Meaning.{cache_meaning}
 use Rattle.pd_kinds.proofs.CrashLemmas.{still_tells}
-use Rattle.pd_answers.specs.CachedView.{blocks_each, hot_blocks}
-use Rattle.pd_writeback.specs.Overlaid.{IsEachOnce}
+use Rattle.pd_answers.specs.Writebacks.{blocks_each, hot_blocks}
+use Rattle.pd_writeback.specs.Copied.{IsEachOnce}
 use Rattle.pd_writeback.specs.Plan.{plan_hot}
 use Rattle.pd_writeback.proofs.OverlaidLemmas.{once_in_any_order}
 use Rattle.pd_writeback.proofs.PlanLemmas.{cold_blocks, cold_told, copied_synced, kept_here, kept_in_any_order, kept_synced, warm_copied}

@@ -1,5 +1,5 @@
 use Rattle.std.proofs.Common.{arith}
-use Rattle.pd_writeback.proofs.MadeLemmas.{no_blocks}
+use Rattle.pd_writeback.proofs.PlanLemmas.{no_blocks}
 use Rattle.pd_writeback.proofs.plan.Plan.make.Goals as goal
 
 pub returns-then-blocks-eq0-clause-plans : goal.returns-then-blocks-eq0-clause-plans

@@ -1,4 +1,4 @@
-use Rattle.std.proofs.Common.{◌≡◌, ◌≢◌, ℕ, List, length, true, false, refl, sym, ap, ◌∙◌, subst, arith}
+use Rattle.std.proofs.Common.{◌≡◌, ℕ, List, length, true, false, refl, sym, ap, ◌∙◌, subst, arith}
 use Rattle.std.proofs.lemmas.Bool.{eqb-true, eqb-false, true≢false}
 use Rattle.std.proofs.lemmas.Result.{on_ok_weaker}
 use Rattle.std.specs.Option.{is_some}
@@ -7,8 +7,8 @@ use Rattle.pd_kinds.specs.Image.{HasBytes, HasWholeBlocks}
 use Rattle.pd_kinds.specs.Meaning.{cache_meaning}
 use Rattle.pd_kinds.proofs.CrashLemmas.{and_then, still_tells}
 use Rattle.pd_image.proofs.CrashLemmas.{at_some}
-use Rattle.pd_answers.specs.CachedView.{hot_blocks, settled}
-use Rattle.pd_writeback.specs.Marked.{are_settled}
+use Rattle.pd_answers.specs.Writebacks.{hot_blocks, settled}
+use Rattle.pd_writeback.specs.Copied.{are_settled}
 use Rattle.pd_writeback.proofs.MarkedLemmas.{still_synced, unwritten_marking}
 use Rattle.pd_writeback.proofs.PlanLemmas.{cold_blocks, cold_settled, marked_plan, no_cached, unmarked_plan}
 use Rattle.pd_writeback.proofs.plan.Plan.mark.Goals as goal

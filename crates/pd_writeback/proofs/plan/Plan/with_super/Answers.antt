@@ -3,10 +3,10 @@ use Rattle.std.proofs.lemmas.Result.{err_from_is_err_and}
 use Rattle.std.proofs.lemmas.Option.{IfSome_then}
 use Rattle.std.specs.List.Sorted.{IsPermutation}
 use Rattle.std.proofs.lemmas.List.Sorted.{IsPermutation-map}
-use Rattle.pd_answers.specs.CachedView.{CachedBlock, blocks_each}
-use Rattle.pd_writeback.specs.Hot.{cached_of_hot, cached_all}
-use Rattle.pd_writeback.specs.Places.{ArePlaces}
-use Rattle.pd_writeback.proofs.MadeLemmas.{found_in, found_size, no_room, parts_in, sorted_fit}
+use Rattle.pd_answers.specs.Writebacks.{CachedBlock, blocks_each}
+use Rattle.pd_writeback.specs.Plan.{cached_of_hot, cached_all}
+use Rattle.pd_writeback.specs.Room.{ArePlaces}
+use Rattle.pd_writeback.proofs.PlanLemmas.{found_in, found_size, no_room, parts_in, sorted_fit}
 use Rattle.pd_writeback.proofs.PlanLemmas.{hot_in}
 use Rattle.pd_writeback.proofs.plan.Plan.with_super.Goals as goal
 

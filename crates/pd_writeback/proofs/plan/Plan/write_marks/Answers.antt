@@ -1,8 +1,8 @@
-use Rattle.std.proofs.Common.{◌≡◌, ◌≤◌, ℕ, List, length, ap, ◌∙◌, subst, arith}
+use Rattle.std.proofs.Common.{◌≡◌, ◌≤◌, ℕ, List, length, ap, subst, arith}
 use Rattle.pd_kinds.specs.Crash.{HoldsSynced, LeavesOnly}
 use Rattle.pd_kinds.specs.declared.block.Block.{Block}
 use Rattle.pd_image.proofs.CrashLemmas.{at_some}
-use Rattle.pd_writeback.specs.Marked.{IsOldNoneOrMarked, marked_image}
+use Rattle.pd_writeback.specs.Copied.{IsOldNoneOrMarked, marked_image}
 use Rattle.pd_writeback.proofs.PlanLemmas.{plan_settles}
 use Rattle.pd_writeback.proofs.plan.Plan.write_marks.Goals as goal
 

@@ -1,5 +1,0 @@
-use Rattle.pd_array.proofs.ArrayWritten.{word_within}
-use Rattle.pd_array.proofs.read.lies_within.Goals as goal
-
-pub returns : goal.returns
-returns c = word_within c.args.word c.args.block.now.0 c.args.i c.requires

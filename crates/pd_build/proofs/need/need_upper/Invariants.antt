@@ -1,8 +1,0 @@
-use Rattle.pd_build.proofs.NeedLemmas.{IsCounting}
-use Rattle.pd_build.proofs.need.need_upper.Given as goal
-
-abbrev pub invariant-loop-nodes : goal.invariant-loop-nodes
-invariant-loop-nodes l = IsCounting l.fn.leaves l.nodes l.need
-
-abbrev pub decreases-loop-nodes : goal.decreases-loop-nodes
-decreases-loop-nodes l = l.nodes

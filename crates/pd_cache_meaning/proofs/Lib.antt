@@ -1,8 +1,0 @@
-pub mod BitLemmas
-pub mod EntryLemmas
-pub mod SoundCache
-pub mod BlockLemmas
-pub mod SkipLemmas
-pub mod SidesLemmas
-pub mod MapLemmas
-pub mod AheadLemmas

@@ -1,9 +1,0 @@
-pub mod Rows
-pub mod Meaning
-pub mod SavedCache
-pub mod Places
-pub mod Arrays
-pub mod Held
-pub mod Kept
-pub mod Head
-pub mod Sound

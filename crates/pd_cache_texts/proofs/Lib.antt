@@ -1,3 +1,0 @@
-pub mod DigitLemmas
-pub mod SingleLemmas
-pub mod CacheNextLemmas

@@ -1,5 +1,0 @@
-use Rattle.pd_cache_texts.proofs.CacheNextLemmas.{cache_read, map_read, end_read}
-use Rattle.pd_cache_texts.proofs.laws.read_cache_lines_are_in_range.Goals as goal
-
-pub returns : goal.returns
-returns c = record { cache = cache_read; map = map_read; end = end_read }

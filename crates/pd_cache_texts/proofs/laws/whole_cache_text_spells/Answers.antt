@@ -1,9 +1,0 @@
-use Rattle.pd_grammar.proofs.GrammarLemmas.{is_reader}
-use Rattle.pd_spells.specs.CacheText.{cache_single}
-use Rattle.pd_spells.proofs.CacheRead.{FitsLine, Placed, single_grammar}
-use Rattle.pd_texts.proofs.LawLemmas.{whole_bytes}
-use Rattle.pd_cache_texts.proofs.SingleLemmas.{whole_single}
-use Rattle.pd_cache_texts.proofs.laws.whole_cache_text_spells.Goals as goal
-
-pub returns : goal.returns
-returns c = record { bytes = whole_bytes cache_single (is_reader cache_single FitsLine Placed single_grammar); spells = whole_single }

@@ -1,5 +1,0 @@
-pub mod Alike
-pub mod KnownPool
-pub mod Premises
-pub mod Known
-pub mod Moving

@@ -1,0 +1,15 @@
+use Rattle.std.proofs.Common.{arith, ap}
+use Rattle.pd_grammar.specs.Need.{nodes_of_tree}
+use Rattle.pd_devices.specs.SharedGathered.{need_of_parts}
+use Rattle.pd_devices.proofs.growing.need_of.Goals as goal
+
+pub returns : goal.returns
+unfolding need_of_parts
+returns c =
+    let tops = ap (λ most. nodes_of_tree most c.args.parts.devices) c.max_entries_of.ensures in
+    let details = ap (λ most. nodes_of_tree most c.args.parts.devices) c.max_entries_of-2.ensures in
+    let index = ap (λ most. nodes_of_tree most c.bitmaps_for-bitmaps.result) c.max_entries_of-3.ensures in
+    let bitmaps = ap (λ number. nodes_of_tree 168 number) c.bitmaps_for-bitmaps.ensures in
+    let overflow = ap (λ most. nodes_of_tree most c.args.parts.over) c.max_entries_of-4.ensures in
+    let often = ap (λ most. nodes_of_tree most c.args.parts.often) c.max_entries_of-5.ensures in
+    omega arith

@@ -1,3 +1,0 @@
-pub mod EraLemmas
-pub mod EraNextLemmas
-pub mod RunLemmas

@@ -1,6 +1,0 @@
-use Rattle.std.proofs.Common.{◌≡◌, take}
-use Rattle.pd_spells.specs.EraText.{eras_from}
-use Rattle.pd_era_texts.proofs.runs.run_length.Given as goal
-
-abbrev pub invariant-loop-i : goal.invariant-loop-i
-invariant-loop-i l = take l.i l.eras ≡ eras_from l.era l.i

@@ -1,8 +1,0 @@
--- The run lines that are still to be given.
-use Rattle.std.specs.Prelude.{List}
-use Rattle.pd_spells.specs.EraText.{Line, run_lines, joined_eras}
-use Rattle.pd_era_texts.specs.declared.runs.EraRuns.{EraRuns}
-
--- the lines of the eras that are left, in runs as long as can be
-abbrev pub runs_left : EraRuns → List Line
-runs_left r = run_lines r.first (joined_eras r.rest.now)

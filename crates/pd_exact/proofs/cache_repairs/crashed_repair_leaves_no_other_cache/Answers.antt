@@ -1,6 +1,0 @@
-use Rattle.pd_exact.proofs.CacheRepaired.{cache_leaves}
-use Rattle.pd_exact.proofs.cache_repairs.crashed_repair_leaves_no_other_cache.Goals as goal
-
-pub returns : goal.returns
-returns c = λ version from to before after status asked.
-    cache_leaves version asked c.saved_caches_are_lawful.ensures c.laid_cache_is_clean.ensures.clean c.laid_cache_is_clean.ensures.version from to before after status

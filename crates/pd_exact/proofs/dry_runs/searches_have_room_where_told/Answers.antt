@@ -1,6 +1,0 @@
-use Rattle.pd_exact.proofs.ToldRoom.{found_told}
-use Rattle.pd_exact.proofs.dry_runs.searches_have_room_where_told.Goals as goal
-
-pub returns : goal.returns
-returns c = λ shared image transaction block_size blocks roots room bytes fit.
-    found_told c.found_pools_are_saved_whole.ensures.saved image transaction block_size blocks roots bytes fit shared room

@@ -1,5 +1,0 @@
-use Rattle.pd_exact.proofs.Checked.{tells_clean}
-use Rattle.pd_exact.proofs.laws.checks_tell_clean_images.Goals as goal
-
-pub returns : goal.returns
-returns c = tells_clean c.faults_are_none_where_clean.ensures

@@ -1,5 +1,0 @@
-use Rattle.pd_exact.proofs.Checked.{clearing_tells}
-use Rattle.pd_exact.proofs.laws.clearing_checks_tell_what_passes.Goals as goal
-
-pub returns : goal.returns
-returns c = clearing_tells c.faults_are_none_where_clean.ensures c.reports_tell_leaks.ensures

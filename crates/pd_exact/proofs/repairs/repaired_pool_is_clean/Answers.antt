@@ -1,5 +1,0 @@
-use Rattle.pd_exact.proofs.Repaired.{holds_salvage}
-use Rattle.pd_exact.proofs.repairs.repaired_pool_is_clean.Goals as goal
-
-pub returns : goal.returns
-returns c = holds_salvage c.saved_pools_are_lawful.ensures c.laid_pool_is_clean.ensures.clean

@@ -1,6 +1,0 @@
-use Rattle.pd_exact.proofs.FoundLawful.{found_lawful}
-use Rattle.pd_exact.proofs.searches.found_pools_are_lawful.Goals as goal
-
-pub returns : goal.returns
-returns c = λ image transaction block_size blocks roots is fit best.
-    found_lawful c.found_pools_are_saved_whole.ensures.saved image transaction block_size blocks roots is.bytes fit best

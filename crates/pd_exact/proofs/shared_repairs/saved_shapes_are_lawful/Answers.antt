@@ -1,6 +1,0 @@
-use Rattle.pd_exact.proofs.SharedRepaired.{shape_lawful}
-use Rattle.pd_exact.proofs.shared_repairs.saved_shapes_are_lawful.Goals as goal
-
-pub returns : goal.returns
-returns c = λ image is none.
-    shape_lawful c.saved_shapes_mean_what_is_saved.ensures c.saved_shapes_are_shapes.ensures.shape image none (c.saved_pools_are_lawful.ensures image is none)

@@ -1,5 +1,0 @@
-use Rattle.pd_exact.proofs.EraLawful.{target_lawful}
-use Rattle.pd_exact.proofs.targets.sound_targets_are_lawful.Goals as goal
-
-pub returns : goal.returns
-returns c = λ image is none. target_lawful image is.bytes (c.lists_are_the_eras.ensures image none) is.blocks

@@ -1,5 +1,0 @@
-use Rattle.pd_image_shapes.proofs.ShapeBack.{laid_shape_back}
-use Rattle.pd_image_shapes.proofs.laid.laid_shapes_keep_their_shape.Goals as goal
-
-pub returns : goal.returns
-returns c = laid_shape_back

@@ -1,5 +1,0 @@
-use Rattle.pd_laid.proofs.LaidLemmas.{tree_written}
-use Rattle.pd_laid.proofs.trees.laid_tree_is_written.Goals as goal
-
-pub returns : goal.returns
-returns c = tree_written

@@ -1,4 +1,0 @@
-mod EraParts
-mod EraSuper
-mod EraCounts
-mod EraLaw

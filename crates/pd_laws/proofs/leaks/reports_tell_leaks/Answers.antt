@@ -1,6 +1,0 @@
-use Rattle.pd_kinds.specs.declared.kind.Passing.TheVariants.{Leaks}
-use Rattle.pd_laws.proofs.LeakLemmas.{leaks_where_passes, passes_where_leaks}
-use Rattle.pd_laws.proofs.leaks.reports_tell_leaks.Goals as goal
-
-pub returns : goal.returns
-returns c = λ found. (leaks_where_passes Leaks found, passes_where_leaks found)

@@ -1,0 +1,4 @@
+pub mod LaidOut
+pub mod Once
+pub mod Shared
+pub mod Clean

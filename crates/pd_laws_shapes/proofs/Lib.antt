@@ -1,0 +1,9 @@
+pub mod LeafLemmas
+pub mod ShapeCounts
+pub mod LeafCounts
+pub mod PiecesBack
+pub mod ReachedLeaves
+pub mod ShapeBack
+pub mod SoundShape
+pub mod SoundVisits
+pub mod VisitPieces

@@ -1,0 +1,11 @@
+use Rattle.std.proofs.Common.{◌≡◌, take}
+use Rattle.std.specs.List.{list_any}
+use Rattle.pd_kinds.specs.Layout.{tree_edges}
+use Rattle.pd_kinds.specs.Graph.{Edge, is_outside}
+use Rattle.pd_layouts.specs.Layout.{tree_of}
+use Rattle.pd_layouts.proofs.tree.is_edge_outside.Given as goal
+
+abbrev pub invariant-loop-i : goal.invariant-loop-i
+invariant-loop-i l =
+    l.outside ≡ list_any (λ (e : Edge). is_outside l.nr e.block)
+    (take l.i (tree_edges l.role (tree_of l.value l.names) l.b.0))

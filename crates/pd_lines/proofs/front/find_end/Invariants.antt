@@ -1,6 +1,0 @@
-use Rattle.std.proofs.Common.{take}
-use Rattle.pd_lines.specs.Moves.{IsUnbroken}
-use Rattle.pd_lines.proofs.front.find_end.Given as goal
-
-abbrev pub invariant-loop-i : goal.invariant-loop-i
-invariant-loop-i l = IsUnbroken (take l.i l.bytes)

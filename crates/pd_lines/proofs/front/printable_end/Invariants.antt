@@ -1,5 +1,0 @@
-use Rattle.pd_lines.specs.Front.{ArePrintable}
-use Rattle.pd_lines.proofs.front.printable_end.Given as goal
-
-abbrev pub invariant-loop-i : goal.invariant-loop-i
-invariant-loop-i l = ArePrintable l.bytes l.at l.i

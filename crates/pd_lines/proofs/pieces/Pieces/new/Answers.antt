@@ -1,5 +1,0 @@
-use Rattle.pd_lines.proofs.Gathering.{gathers_start}
-use Rattle.pd_lines.proofs.pieces.Pieces.new.Goals as goal
-
-pub returns-clause-start : goal.returns-clause-start
-returns-clause-start c = λ start. rw c.new.ensures (gathers_start start)

@@ -1,0 +1,4 @@
+pub mod SkipLemmas
+pub mod SidesLemmas
+pub mod SoundCache
+pub mod AddedLemmas

@@ -1,0 +1,4 @@
+pub mod Rows
+pub mod SkippedWords
+pub mod Sides
+pub mod OriginSet

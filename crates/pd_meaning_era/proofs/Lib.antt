@@ -1,0 +1,7 @@
+pub mod LevelLemmas
+pub mod RaiseLemmas
+pub mod KnownLemmas
+pub mod PartLemmas
+pub mod SetLemmas
+pub mod SoundEra
+pub mod TakeLemmas

@@ -1,0 +1,3 @@
+pub mod Eras
+pub mod Notes
+pub mod Parts

@@ -1,0 +1,17 @@
+pub mod NumberLemmas
+pub mod PackedLemmas
+pub mod EndLemmas
+pub mod OccursLemmas
+pub mod WalkLemmas
+pub mod FoundLemmas
+pub mod LeafLemmas
+pub mod GivenLemmas
+pub mod PieceLemmas
+pub mod ReadLemmas
+pub mod RowLemmas
+pub mod LawfulLemmas
+pub mod JoinedLemmas
+pub mod AppendLemmas
+pub mod SoundPool
+pub mod ChunkLemmas
+pub mod RootLemmas

@@ -1,0 +1,17 @@
+use Rattle.std.proofs.Common.{◌≡◌, ◌≤◌, IfSome}
+use Rattle.pd_image.specs.Device.{OnlyReads}
+use Rattle.pd_tree.specs.Stack.{stack_number}
+use Rattle.pd_meaning_thin.specs.Walk.{shared_blocks}
+use Rattle.pd_meaning_thin.proofs.PieceLemmas.{PartsTold}
+use Rattle.pd_meaning_thin.proofs.part_search.next_part.Given as goal
+
+abbrev pub invariant-loop-stack : goal.invariant-loop-stack
+invariant-loop-stack g l = record {
+  told : IfSome (g.D.Device.state l.initial.dev).held (λ image. PartsTold (shared_blocks l.shared) image (g.D.Device.state l.initial.dev).reads l.initial.stack (g.D.Device.state l.dev).reads l.stack);
+  number : stack_number 8 l.stack ≤ stack_number 8 l.initial.stack;
+  kept : OnlyReads (g.D.Device.state l.initial.dev) (g.D.Device.state l.dev);
+  faults : (g.D.Device.state l.dev).faults ≡ (g.D.Device.state l.initial.dev).faults;
+}
+
+abbrev pub decreases-loop-stack : goal.decreases-loop-stack
+decreases-loop-stack g l = stack_number 8 l.stack

@@ -1,2 +1,0 @@
-pub mod RepeatLemmas
-pub mod AddedLemmas

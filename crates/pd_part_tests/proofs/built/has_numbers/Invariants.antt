@@ -1,7 +1,0 @@
-use Rattle.pd_image.specs.Device.{IsAttached}
-use Rattle.pd_part_tests.proofs.built.has_numbers.Given as goal
-
-abbrev pub invariant-loop-i : goal.invariant-loop-i
-invariant-loop-i g l = record {
-  attached : IsAttached (g.D.Device.state l.dev);
-}

@@ -1,7 +1,0 @@
-use Rattle.std.proofs.Common.{◌^◌, nat_lt}
-use Rattle.pd_value.specs.declared.thin.Root.{Root}
-use Rattle.pd_build.specs.Leaves.{AreInOrder}
-use Rattle.pd_part_tests.proofs.built.numbered.Given as goal
-
-abbrev pub invariant-loop-i : goal.invariant-loop-i
-invariant-loop-i l = AreInOrder (λ (root : Root). nat_lt root.0 (2 ^ 64)) l.items.items l.i

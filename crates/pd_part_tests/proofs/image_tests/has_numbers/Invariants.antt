@@ -1,5 +1,0 @@
-use Rattle.pd_image.specs.Device.{OnlyReads}
-use Rattle.pd_part_tests.proofs.image_tests.has_numbers.Given as goal
-
-abbrev pub invariant-loop-number : goal.invariant-loop-number
-invariant-loop-number g l = OnlyReads (g.D.Device.state l.initial.device) (g.D.Device.state l.device)

@@ -1,8 +1,0 @@
-use Rattle.pd_image.specs.Device.{OnlyReads}
-use Rattle.pd_image.specs.MemDevice.{mem_device_state}
-use Rattle.pd_part_tests.proofs.tree_tests.expect_entries.Given as goal
-
-abbrev pub invariant-loop-entry : goal.invariant-loop-entry
-invariant-loop-entry g l = record {
-  kept : OnlyReads (mem_device_state l.initial.device) (mem_device_state l.device);
-}

@@ -1,6 +1,0 @@
-use Rattle.pd_image.specs.Device.{OnlyReads}
-use Rattle.pd_image.specs.MemDevice.{mem_device_state}
-use Rattle.pd_part_tests.proofs.tree_tests.expect_lookups.Given as goal
-
-abbrev pub invariant-loop-lookup : goal.invariant-loop-lookup
-invariant-loop-lookup g l = OnlyReads (mem_device_state l.initial.device) (mem_device_state l.device)

@@ -1,8 +1,0 @@
-use Rattle.pd_image.specs.Device.{IsAttached}
-use Rattle.pd_image.specs.MemDevice.{mem_device_state}
-use Rattle.pd_part_tests.proofs.tree_tests.expect_sevens.Given as goal
-
-abbrev pub invariant-loop : goal.invariant-loop
-invariant-loop g l = record {
-  attached : IsAttached (mem_device_state l.device);
-}

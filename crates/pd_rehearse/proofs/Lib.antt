@@ -1,4 +1,0 @@
-pub mod Counting
-pub mod GeneratedShape
-pub mod Numbers
-pub mod Rehearsing

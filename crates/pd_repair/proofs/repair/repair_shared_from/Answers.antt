@@ -1,0 +1,9 @@
+use Rattle.std.proofs.Common.{rules}
+use Rattle.pd_restore.specs.Pools.{shape_content}
+use Rattle.pd_laid.specs.Salvage.{saved_shape_from}
+use Rattle.pd_repair.proofs.SuperLemmas.{never_saved}
+use Rattle.pd_repair.proofs.repair.repair_shared_from.Goals as goal
+
+pub returns-in_err-saved-clause-repaired : goal.returns-in_err-saved-clause-repaired
+returns-in_err-saved-clause-repaired g c =
+    never_saved shape_content saved_shape_from c.args.s.now c.in_err-saved.field-0.0 c.from_residual.result (g.A.Device.state c.args.input.now) (g.B.Device.state c.args.output.now) (search rules)

@@ -1,8 +1,0 @@
-use Rattle.std.proofs.Common.{arith}
-use Rattle.pd_restore_cache.specs.Words.{bytes_of}
-use Rattle.pd_restore_cache.proofs.NeedLemmas.{array_need}
-use Rattle.pd_restore_cache.proofs.need.need_words.Goals as goal
-
-pub returns-clause-need : goal.returns-clause-need
-returns-clause-need c =
-    array_need (bytes_of c.args.words) c.args.count c.word_blocks-blocks.result c.max-leaves.result c.need_upper.result c.word_blocks-blocks.ensures.number (omega (arith, c.max-leaves.ensures)) c.need_upper.ensures.count

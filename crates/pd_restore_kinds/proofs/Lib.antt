@@ -1,0 +1,9 @@
+pub mod CacheLineLemmas
+pub mod CachePartLemmas
+pub mod WordLemmas
+pub mod WriteLemmas
+pub mod EraPartLemmas
+pub mod ReadingLemmas
+pub mod OriginLemmas
+pub mod RepeatLemmas
+pub mod RowLemmas

@@ -1,0 +1,5 @@
+pub mod Caches
+pub mod CacheReading
+pub mod CacheRoots
+pub mod EraReading
+pub mod EraRoots

@@ -1,0 +1,4 @@
+pub mod HeldLemmas
+pub mod KeptEntries
+mod GatherLemmas
+mod FirstLemmas

@@ -1,0 +1,24 @@
+use Rattle.std.proofs.Common.{ℕ, None, IfSome, subst}
+use Rattle.pd_value.specs.declared.thin.Root.{Root}
+use Rattle.std.proofs.lemmas.Option.{IfSome_then}
+use Rattle.pd_tree.proofs.NextLemmas.{if_both}
+use Rattle.pd_tree.specs.Cursor.{root_of}
+use Rattle.pd_tree.specs.Stack.{IsNext}
+use Rattle.pd_salvage.specs.Cursor.{saved_left}
+use Rattle.pd_salvage_cache.specs.Places.{places_left}
+use Rattle.pd_salvage_cache.proofs.HeldLemmas.{found_end, found_known}
+use Rattle.pd_salvage_cache.proofs.places.Places.find.Goals as goal
+
+pub returns-in-Past-clause-found : goal.returns-in-Past-clause-found
+returns-in-Past-clause-found g c =
+    IfSome_then (g.D.Device.state c.args.dev.now).held c.loop-root.invariant.left (λ image same.
+    found_known c.args.key None image (places_left image c.args.self.now) c.loop-root.self c.known.new.self same c.in-Past.ensures)
+
+pub returns-in-None-clause-found : goal.returns-in-None-clause-found
+returns-in-None-clause-found g c =
+    if_both (g.D.Device.state c.args.dev.now).held
+    (λ image held finds next.
+    found_end c.args.key image (places_left image c.args.self.now) c.loop-root.self c.known.new.self c.next.new.self finds c.in-Unread.ensures next)
+    c.loop-root.invariant.left
+    (subst (λ o. IfSome o (λ image. IsNext {X = ℕ × Root} None (saved_left 8 root_of image c.known.new.self.entries) (saved_left 8 root_of image c.next.new.self))) c.loop-root.invariant.kept.held
+    (rw c.in-None.is at c.in_ok-next.ensures.next))

@@ -1,0 +1,4 @@
+pub mod Arrays
+pub mod SavedCache
+pub mod Places
+pub mod Sound

@@ -1,0 +1,13 @@
+//! What can be saved of a damaged cache, held in memory (`cache_repair`).
+#![tactic(auto)]
+
+mod array;
+mod arrays;
+mod beside;
+mod gather;
+mod places;
+mod salvage;
+mod saved;
+
+pub use salvage::salvage_cache;
+pub use saved::{CacheHead, Row, SavedCache};

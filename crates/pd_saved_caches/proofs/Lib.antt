@@ -1,5 +1,0 @@
-pub mod WordsSaved
-pub mod SoundArrays
-pub mod Entries
-pub mod SoundCache
-pub mod SavedEntries

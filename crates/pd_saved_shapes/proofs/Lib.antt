@@ -1,2 +1,0 @@
-pub mod VisitPieces
-pub mod SoundVisits

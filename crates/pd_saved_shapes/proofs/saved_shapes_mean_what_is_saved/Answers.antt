@@ -1,5 +1,0 @@
-use Rattle.pd_saved_shapes.proofs.VisitPieces.{shape_means}
-use Rattle.pd_saved_shapes.proofs.saved_shapes_mean_what_is_saved.Goals as goal
-
-pub returns : goal.returns
-returns c = shape_means

@@ -1,5 +1,0 @@
-use Rattle.pd_shapes.proofs.ShapeText.{unshared_spelled, shared_spelled}
-use Rattle.pd_shapes.proofs.laws.either_version_spells_a_shape.Goals as goal
-
-pub returns : goal.returns
-returns c = record { first = unshared_spelled; second = shared_spelled }

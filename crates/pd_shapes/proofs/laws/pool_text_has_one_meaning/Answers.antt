@@ -1,8 +1,0 @@
-use Rattle.pd_shapes.proofs.PoolLaws.{meaning_lawful, one_pool}
-use Rattle.pd_shapes.proofs.laws.pool_text_has_one_meaning.Goals as goal
-
-pub returns-clause-lawful : goal.returns-clause-lawful
-returns-clause-lawful c = meaning_lawful
-
-pub returns-clause-one : goal.returns-clause-one
-returns-clause-one c = one_pool

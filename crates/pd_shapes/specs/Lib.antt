@@ -1,6 +1,0 @@
-pub mod SharedText
-pub mod SharedNeed
-pub mod ImageShape
-pub mod SavedShape
-pub mod PoolText
-pub mod Example

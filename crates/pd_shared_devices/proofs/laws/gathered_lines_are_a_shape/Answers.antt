@@ -1,5 +1,0 @@
-use Rattle.pd_shared_devices.proofs.WholeLemmas.{lines_are_a_shape}
-use Rattle.pd_shared_devices.proofs.laws.gathered_lines_are_a_shape.Goals as goal
-
-pub returns : goal.returns
-returns c = lines_are_a_shape

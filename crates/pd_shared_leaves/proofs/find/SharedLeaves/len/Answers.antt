@@ -1,8 +1,0 @@
-use Rattle.std.proofs.Common.{◌≡◌, length, sym, rules}
-use Rattle.pd_shared_leaves.proofs.RankLemmas.{marked_number}
-use Rattle.pd_shared_leaves.proofs.find.SharedLeaves.len.Goals as goal
-
-pub returns : goal.returns
-returns c =
-    let len : c.len.result ≡ length c.args.self.now.marks.items = search rules in
-    rw (c.rank.ensures, c.as_slice.ensures.value, len) (sym (marked_number c.args.self.now.marks.items))

@@ -1,7 +1,0 @@
-use Rattle.std.proofs.Common.{[], ap}
-use Rattle.pd_shared_leaves.specs.Pieces.{joined_pieces, pieces_below}
-use Rattle.pd_shared_leaves.proofs.pieces.PieceRuns.restart.Goals as goal
-
-pub returns-clause-pieces : goal.returns-clause-pieces
-unfolding pieces_below
-returns-clause-pieces c = λ shared image. rw c.new-self.ensures (ap (joined_pieces []) (c.restart.ensures.parts shared image))

@@ -1,9 +1,0 @@
-use Rattle.std.proofs.Common.{◌*◌, ◌/◌, arith}
-use Rattle.pd_shared_leaves.proofs.RankLemmas.{counted_on}
-use Rattle.pd_shared_leaves.proofs.ranks.rank.Goals as goal
-
-pub returns : goal.returns
-returns c =
-    let before = c.requires.ranked.each (c.args.b / 64) (omega arith) in
-    let behind = counted_on c.args.marks.now (64 * (c.args.b / 64)) c.args.b (omega arith) in
-    omega (arith, c.from.ensures, c.from-2.ensures, c.count_shared.ensures)

@@ -1,8 +1,0 @@
-use Rattle.pd_grammar.proofs.SpellingLemmas.{spells_one}
-use Rattle.pd_spells.specs.EraText.{era, MeansEra}
-use Rattle.pd_spells.proofs.EraRead.{FitsLine, Placed}
-use Rattle.pd_spells.proofs.EraLaws.{era_language}
-use Rattle.pd_spells.proofs.era.era_text_has_one_meaning.Goals as goal
-
-pub returns : goal.returns
-returns c = spells_one era MeansEra FitsLine Placed era_language

@@ -1,4 +1,0 @@
-pub mod Around
-pub mod DataMap
-pub mod MetaMap
-pub mod Checked

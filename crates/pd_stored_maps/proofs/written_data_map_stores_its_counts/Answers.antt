@@ -1,9 +1,0 @@
-use Rattle.pd_stored_maps.proofs.DataMap.{data_map_stored}
-use Rattle.pd_stored_maps.proofs.Checked.{data_map_checked}
-use Rattle.pd_stored_maps.proofs.written_data_map_stores_its_counts.Goals as goal
-
-pub returns-clause-any_format : goal.returns-clause-any_format
-returns-clause-any_format c = data_map_stored
-
-pub returns-clause-checked : goal.returns-clause-checked
-returns-clause-checked c = data_map_checked

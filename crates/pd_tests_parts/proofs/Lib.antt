@@ -1,0 +1,4 @@
+pub mod FillingNumbers
+pub mod MapNeeds
+pub mod RestoreLemmas
+pub mod CopyLemmas

@@ -1,6 +1,0 @@
-use Rattle.std.proofs.Common.{◌≡◌}
-use Rattle.pd_image.specs.MemSink.{mem_sink_state}
-use Rattle.pd_text_tests.proofs.text_tests.put_numbers.Given as goal
-
-abbrev pub invariant-loop-number : goal.invariant-loop-number
-invariant-loop-number l = (mem_sink_state l.sink).access ≡ 1

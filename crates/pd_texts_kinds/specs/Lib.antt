@@ -1,0 +1,3 @@
+pub mod CacheLine
+pub mod EraLine
+pub mod Runs

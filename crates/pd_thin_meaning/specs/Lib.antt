@@ -1,5 +1,0 @@
-pub mod Items
-pub mod Devices
-pub mod Joined
-pub mod Runs
-pub mod Given

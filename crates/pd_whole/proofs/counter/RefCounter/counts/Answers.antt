@@ -1,8 +1,0 @@
-use Rattle.std.proofs.Common.{sym, ◌∙◌, arith}
-use Rattle.pd_whole.proofs.RoleLemmas.{counts_by_role}
-use Rattle.pd_whole.proofs.counter.RefCounter.counts.Goals as goal
-
--- where it has counted all that is reached, these are the counts
-pub returns-clause-counted : goal.returns-clause-counted
-returns-clause-counted c = λ graph image seen d within.
-    seen.counted c.if-self.false d ∙ sym (counts_by_role graph image c.args.self.role d c.args.self.few (seen.one_role (omega (arith, within))))

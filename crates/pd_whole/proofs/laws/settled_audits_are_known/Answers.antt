@@ -1,5 +1,0 @@
-use Rattle.pd_whole.proofs.KnownLemmas.{known_by}
-use Rattle.pd_whole.proofs.laws.settled_audits_are_known.Goals as goal
-
-pub returns : goal.returns
-returns c = known_by

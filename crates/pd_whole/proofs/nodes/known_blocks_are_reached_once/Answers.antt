@@ -1,5 +1,0 @@
-use Rattle.pd_whole.proofs.NodeLemmas.{known_once}
-use Rattle.pd_whole.proofs.nodes.known_blocks_are_reached_once.Goals as goal
-
-pub returns : goal.returns
-returns c = known_once

@@ -1,5 +1,0 @@
-use Rattle.pd_whole.proofs.NodeLemmas.{no_more}
-use Rattle.pd_whole.proofs.nodes.reached_blocks_are_no_more_than_nodes.Goals as goal
-
-pub returns : goal.returns
-returns c = no_more

@@ -1,9 +1,0 @@
-use Rattle.std.proofs.Common.{map}
-use Rattle.std.specs.List.{range_with_len}
-use Rattle.pd_whole.specs.Charges.{Charges}
-use Rattle.pd_whole.specs.Shared.{shared_test}
-use Rattle.pd_whole.proofs.sharing.mark_shared.Given as goal
-
--- the blocks before this one were looked at
-abbrev pub invariant-loop-b : goal.invariant-loop-b
-invariant-loop-b l = Charges (map (shared_test l.initial.audit l.role) (range_with_len 0 l.b)) l.initial.audit l.audit

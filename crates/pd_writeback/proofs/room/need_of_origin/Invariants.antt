@@ -1,7 +1,0 @@
-use Rattle.std.proofs.Common.{◌≡◌, take}
-use Rattle.pd_answers.specs.CachedView.{origin_need}
-use Rattle.pd_writeback.specs.Hot.{cached_all}
-use Rattle.pd_writeback.proofs.room.need_of_origin.Given as goal
-
-abbrev pub invariant-loop-one : goal.invariant-loop-one
-invariant-loop-one l = l.need ≡ origin_need l.each (cached_all (take l.one-index l.hot))
