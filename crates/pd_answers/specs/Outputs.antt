@@ -81,6 +81,3 @@ making_answer making room line =
 -- an image is made where nothing is refused: this is laid over what the output held
 abbrev pub Lays : Answer → Making → ℕ → List (List ℕ) → List (List ℕ) → Type 0
 Lays answer making room old new = (answer.status ≡ 0) × IsLaid (making.laid room) old new
-
-abbrev pub LaysPool : Answer → ThinPool → ℕ → List (List ℕ) → List (List ℕ) → Type 0
-LaysPool answer pool room old new = Lays answer (pool_making pool) room old new

@@ -8,8 +8,6 @@ mod lines;
 mod merging;
 mod query;
 mod states;
-#[cfg(test)]
-mod tests;
 
 pub use kept::{Kept, KeptDevice, kept_by_repair, least_room};
 pub use latest::{SavedTimes, time_of_saved};

@@ -17,8 +17,6 @@ mod packing;
 mod part_search;
 mod parts;
 mod pieces;
-#[cfg(test)]
-mod tests;
 mod walk;
 
 pub use devices::{DeviceRow, MapRuns, ThinDevices};

@@ -22,6 +22,8 @@ mod map_tests;
 #[cfg(test)]
 mod objects;
 #[cfg(test)]
+mod packed_tests;
+#[cfg(test)]
 mod pool_text_tests;
 #[cfg(test)]
 mod refusals;

@@ -26,3 +26,5 @@ mod shared_repair_tests;
 mod shared_restore_tests;
 #[cfg(test)]
 mod shrink_tests;
+#[cfg(test)]
+mod told_tests;

@@ -42,12 +42,6 @@ left_alone unused old new asked = record { held = ap (λ (d : DeviceState). d.he
 left_alone (reading path) old new asked = asked.untouched
 left_alone (writing path) old new asked = asked.untouched
 
--- one that wasn't asked for yet
-pub unasked : (given : Use) (device : DeviceState) → device.access ≡ 0 → AsksAs given device device
-unasked unused device none = refl
-unasked (reading path) device none = record { used = record { allowed = inl none; named = λ ne. absurd (ne none) }; untouched = record { held = refl; history = refl } }
-unasked (writing path) device none = record { used = record { allowed = inl none; named = λ ne. absurd (ne none) }; untouched = record { held = refl; history = refl } }
-
 asked_used : (given : Use) (old new : DeviceState) → AsksAs given old new → IsFollowed given (λ as_named. IsUsed as_named new.access new.path)
 asked_used unused old new asked = tt
 asked_used (reading path) old new asked = asked.used

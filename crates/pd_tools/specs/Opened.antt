@@ -73,8 +73,3 @@ abbrev pub KeepsAs : Use → DeviceState → DeviceState → Type 0
 KeepsAs unused old new = new ≡ old
 KeepsAs (reading path) old new = OnlyReads old new
 KeepsAs (writing path) old new = KeepsPlace old new
-
-pub record AreKeptOpen (uses : Uses) (old new : Devices) : Type 0 where
-  pub input : KeepsAs uses.input old.input new.input
-  pub output : KeepsAs uses.output old.output new.output
-  pub third : KeepsAs uses.third old.third new.third

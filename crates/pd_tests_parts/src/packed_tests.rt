@@ -1,7 +1,6 @@
-//! What no clause says: that memory is enough for a few runs, and for some chunks of them.
+//! Packed runs: that memory is enough for a few of them, and for some chunks.
 
-use crate::PackedRuns;
-use crate::joined::Run;
+use pd_meaning_thin::{PackedRuns, Run};
 use std::alloc::{AllocError, Global};
 use std::test::Fail;
 

@@ -1,7 +1,7 @@
-//! What no clause says: that memory is enough, and what the lines look like.
+//! What a dry run tells: the least room, and its lines (`thin_repair --dry-run`).
 
-use crate::{Kept, KeptDevice, least_room, put_kept};
 use pd_image::{MemSink, Sink};
+use pd_kept::{Kept, KeptDevice, least_room, put_kept};
 use std::alloc::Global;
 use std::test::Fail;
 
