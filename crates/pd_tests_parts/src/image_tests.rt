@@ -1,4 +1,4 @@
-//! image_tests.
+//! Devices, sources and sinks: in memory, where they fail as they are set to, and over real files.
 
 ghost use Rattle.std.specs.Prelude.{◌≡◌, ◌≤◌};
 ghost use Rattle.pd_image.specs.Device.{IsAttached, OnlyReads};
@@ -194,6 +194,26 @@ fn file_device_needs_a_file_that_it_may_write(rt: HostRuntime) -> Result<(), Fai
     Ok(())
 }
 
+/// Whether a source can be attached to the file.
+fn can_attach_source(files: &OpenFiles<'_, HostRuntime>, path: &str) -> bool {
+    StdSource::new(files).attach(path).is_ok()
+}
+
+/// Whether a sink can be attached to the file.
+fn can_attach_sink(files: &OpenFiles<'_, HostRuntime>, path: &str) -> bool {
+    StdSink::out(files).attach(Some(path)).is_ok()
+}
+
+/// Whether a device, a source and a sink can be attached to the file.
+fn can_attach_each(files: &OpenFiles<'_, HostRuntime>, path: &str) -> [bool; 3] {
+    let device = FileDevice::new(files).attach(path, true).is_ok();
+    [
+        device,
+        can_attach_source(files, path),
+        can_attach_sink(files, path),
+    ]
+}
+
 /// A file is one object's alone, by whatever name, and a text that is refused cuts none.
 #[test]
 fn objects_take_no_file_of_another(rt: HostRuntime) -> Result<(), Fail> {
@@ -203,9 +223,7 @@ fn objects_take_no_file_of_another(rt: HostRuntime) -> Result<(), Fail> {
     let mut device = Box::new(rt.alloc(), FileDevice::new(&files))?;
     device.attach("shared.img", false)?;
     for path in ["shared.img", "./shared.img", "linked.img"] {
-        assert!(rt; FileDevice::new(&files).attach(path, true).is_err());
-        assert!(rt; StdSource::new(&files).attach(path).is_err());
-        assert!(rt; StdSink::out(&files).attach(Some(path)).is_err());
+        assert!(rt; can_attach_each(&files, path) == [false; 3]);
     }
     assert!(rt; fs::read(&rt, "shared.img")?.as_slice() == [1; 4096].as_slice());
     remove_file(&rt, "linked.img")?;
@@ -223,11 +241,46 @@ fn expect_first_alone<D: Device>(rt: &impl Abort, device: &mut D)
     assert!(rt; device.read(1, &mut block).is_err());
 }
 
+/// What is looked at over a real file.
+#[derive(Clone, Copy)]
+enum Look {
+    /// A file that is cut once the device is attached.
+    CutShort,
+    /// All blocks, in any order.
+    AnyOrder,
+    /// A block that is changed within a run.
+    WrittenRun,
+    /// A file that is cut once a run of it was read.
+    CutRun,
+}
+
+/// Looks at a file with a device of its own.
+fn expect_look(stop: &impl Abort, rt: &HostRuntime, look: Look) -> Result<(), Fail> {
+    let files = OpenFiles::new(rt)?;
+    expect_in(stop, rt, &mut FileDevice::new(&files), look)
+}
+
+/// The same, with a device that isn't attached yet. What a file's device means is known here as that of any device.
+fn expect_in<D: Device>(
+    stop: &impl Abort,
+    rt: &HostRuntime,
+    device: &mut D,
+    look: Look,
+) -> Result<(), Fail>
+    requires { (D.state device.old).access ≡ 0 }
+{
+    match look {
+        Look::CutShort => expect_cut_short(stop, rt, device),
+        Look::AnyOrder => expect_any_order(stop, device),
+        Look::WrittenRun => expect_written(stop, device),
+        Look::CutRun => expect_cut_run(stop, rt, device),
+    }
+}
+
 #[test]
 fn file_device_fails_past_the_end_of_a_file_cut_short(rt: HostRuntime) -> Result<(), Fail> {
     write_file(&rt, "cut_short.img", &[1; 2 * BLOCK_SIZE])?;
-    let files = OpenFiles::new(&rt)?;
-    expect_cut_short(&rt, &rt, &mut FileDevice::new(&files))?;
+    expect_look(&rt, &rt, Look::CutShort)?;
     remove_file(&rt, "cut_short.img")
 }
 
@@ -320,8 +373,7 @@ const ANY_ORDER: &[Row] = &[
 #[test]
 fn file_device_reads_in_any_order(rt: HostRuntime) -> Result<(), Fail> {
     write_numbered(&rt, "any_order.img", 35)?;
-    let files = OpenFiles::new(&rt)?;
-    expect_any_order(&rt, &mut FileDevice::new(&files))?;
+    expect_look(&rt, &rt, Look::AnyOrder)?;
     remove_file(&rt, "any_order.img")
 }
 
@@ -353,8 +405,7 @@ fn expect_written<D: Device>(rt: &impl Abort, device: &mut D) -> Result<(), Fail
 #[test]
 fn file_device_reads_what_was_written_in_a_run(rt: HostRuntime) -> Result<(), Fail> {
     write_numbered(&rt, "written_run.img", 35)?;
-    let files = OpenFiles::new(&rt)?;
-    expect_written(&rt, &mut FileDevice::new(&files))?;
+    expect_look(&rt, &rt, Look::WrittenRun)?;
     remove_file(&rt, "written_run.img")
 }
 
@@ -371,8 +422,7 @@ fn file_device_fails_block_by_block_past_the_end_of_a_run_cut_short(
     rt: HostRuntime,
 ) -> Result<(), Fail> {
     write_numbered(&rt, "cut_run.img", 35)?;
-    let files = OpenFiles::new(&rt)?;
-    expect_cut_run(&rt, &rt, &mut FileDevice::new(&files))?;
+    expect_look(&rt, &rt, Look::CutRun)?;
     remove_file(&rt, "cut_run.img")
 }
 
@@ -394,9 +444,14 @@ fn expect_cut_run<D: Device>(
 #[test]
 fn std_source_gives_a_file(rt: HostRuntime) -> Result<(), Fail> {
     write_file(&rt, "source.txt", b"abc")?;
-    let files = OpenFiles::new(&rt)?;
-    expect_abc(&rt, &mut StdSource::new(&files))?;
+    expect_file_of_abc(&rt, &rt)?;
     remove_file(&rt, "source.txt")
+}
+
+/// The text of the file is `abc`.
+fn expect_file_of_abc(stop: &impl Abort, rt: &HostRuntime) -> Result<(), Fail> {
+    let files = OpenFiles::new(rt)?;
+    expect_abc(stop, &mut StdSource::new(&files))
 }
 
 /// The text is `abc`.
@@ -415,34 +470,45 @@ fn expect_abc<S: Source>(rt: &impl Abort, source: &mut S) -> Result<(), Fail>
 #[test]
 fn std_source_needs_a_file_that_is_there(rt: HostRuntime) -> Result<(), Fail> {
     let files = OpenFiles::new(&rt)?;
-    assert!(rt; StdSource::new(&files).attach("missing").is_err());
+    assert!(rt; !can_attach_source(&files, "missing"));
     Ok(())
+}
+
+/// Puts these to a file, or to the standard output.
+fn expect_put_out(
+    stop: &impl Abort,
+    rt: &HostRuntime,
+    path: Option<&str>,
+    puts: &[Put],
+) -> Result<(), Fail> {
+    let files = OpenFiles::new(rt)?;
+    expect_puts(stop, &mut StdSink::out(&files), path, puts)
+}
+
+/// Puts these to the standard error.
+fn expect_put_err(stop: &impl Abort, rt: &HostRuntime, puts: &[Put]) -> Result<(), Fail> {
+    let files = OpenFiles::new(rt)?;
+    expect_puts(stop, &mut StdSink::err(&files), None, puts)
 }
 
 #[test]
 fn std_sink_makes_and_cuts_its_file(rt: HostRuntime) -> Result<(), Fail> {
     write_file(&rt, "sink.txt", b"what was there")?;
-    let files = OpenFiles::new(&rt)?;
-    let mut sink = Box::new(rt.alloc(), StdSink::out(&files))?;
-    expect_puts(
+    expect_put_out(
         &rt,
-        &mut *sink,
+        &rt,
         Some("sink.txt"),
         &[(b"ab", true), (b"\xff", true)],
     )?;
     assert!(rt; fs::read(&rt, "sink.txt")?.as_slice() == b"ab\xff".as_slice());
-    assert!(rt;
-        StdSink::out(&files)
-            .attach(Some("missing/sink.txt"))
-            .is_err()
-    );
+    let files = OpenFiles::new(&rt)?;
+    assert!(rt; !can_attach_sink(&files, "missing/sink.txt"));
     remove_file(&rt, "sink.txt")
 }
 
 #[test]
 fn std_sink_writes_any_bytes_to_the_standard_output(rt: HostRuntime) -> Result<(), Fail> {
-    let files = OpenFiles::new(&rt)?;
-    expect_puts(&rt, &mut StdSink::out(&files), None, &[(b"\xff\n", true)])
+    expect_put_out(&rt, &rt, None, &[(b"\xff\n", true)])
 }
 
 #[test]
@@ -451,6 +517,5 @@ fn std_sink_writes_text_to_the_standard_error(rt: HostRuntime) -> Result<(), Fai
         (b"a note\n".as_slice(), true),
         (b"\xff\n".as_slice(), false),
     ];
-    let files = OpenFiles::new(&rt)?;
-    expect_puts(&rt, &mut StdSink::err(&files), None, puts)
+    expect_put_err(&rt, &rt, puts)
 }

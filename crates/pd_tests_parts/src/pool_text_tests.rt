@@ -185,22 +185,20 @@ const REFUSED_USES: &[Refused] = &[
     (7, OutOfRange, &["device 0 4 0 0 0\nuse 0\nuse 1\n"]),
 ];
 
-/// The first lines of texts, and what is refused behind them.
-const REFUSED: &[(&str, &[Refused])] = &[
-    ("", REFUSED_TEXTS),
-    (FIRST_FRONT, REFUSED_BODIES),
-    (FRONT, REFUSED_LEAVES),
-    (LEAF_FRONT, REFUSED_USES),
-];
-
 #[test]
-fn texts_of_either_version_are_refused_at_their_line_for_their_cause(
+fn texts_of_version_1_are_refused_at_their_line_for_their_cause(
     rt: HostRuntime,
 ) -> Result<(), Fail> {
-    for (front, rows) in REFUSED {
-        expect_each_refused::<ThinState>(&rt, rt.alloc(), front, rows)?;
-    }
-    Ok(())
+    expect_each_refused::<ThinState>(&rt, rt.alloc(), "", REFUSED_TEXTS)?;
+    expect_each_refused::<ThinState>(&rt, rt.alloc(), FIRST_FRONT, REFUSED_BODIES)
+}
+
+#[test]
+fn texts_of_version_2_are_refused_at_their_line_for_their_cause(
+    rt: HostRuntime,
+) -> Result<(), Fail> {
+    expect_each_refused::<ThinState>(&rt, rt.alloc(), FRONT, REFUSED_LEAVES)?;
+    expect_each_refused::<ThinState>(&rt, rt.alloc(), LEAF_FRONT, REFUSED_USES)
 }
 
 /// Texts of which no line is refused.
