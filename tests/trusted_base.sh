@@ -161,7 +161,7 @@ for told in \
     "\`run_tool\` rests on $(rests_on run_tool) lines" \
     "$all of $(number "$tmp/specs") files of definitions, $(number "$tmp/text") lines" \
     "and $(number "$tmp/sources") source files" \
-    "$headline files carry it" \
+    "$headline files serve the clause of" \
     "The other $((all - headline)) files"; do
     grep -qF "$told" "$tmp/list" || {
         printf '%s should say: %s\n' "$list" "$told"
