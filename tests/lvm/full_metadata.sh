@@ -7,30 +7,38 @@ L vgcreate vg /dev/vda
 L lvcreate -y --type thin-pool -L 512M --poolmetadatasize 4M -n pool vg
 L lvcreate -y -V 16G -T vg/pool -n volume
 wr /dev/vg/volume 0 2 0
+L lvcreate -y -s vg/volume -n copy -kn
+is 'the snapshot is made' [ "$rc" = 0 ]
 L vgchange -an vg
 harm pool_tmeta
-# 232000 mappings on 921 leaves; data blocks 0 to 31 are those that were written
+# both have 818 leaves of mappings, which they share; data blocks 0 to 31 are those that were written
 thin_dump -o /tmp/plain.txt /dev/mapper/harm
 awk '
-    NR == 1 || NR == 2 { print }
+    NR == 1 { print "thin 2"; next }
+    NR == 2 {
+        print
+        for (leaf = 0; leaf < 818; leaf++) {
+            print "leaf", leaf, 252
+            print "map", 252 * leaf, (leaf ? 32 + 252 * leaf % 4000 : 0), 252, 0
+        }
+        next
+    }
     $1 == "device" {
-        print $1, $2, 232000, $4, $5, $6
-        print "map 0 0 32 0"
-        for (at = 32; at < 232000; at += 4000) print "map", at, 32, (at + 4000 > 232000 ? 232000 - at : 4000), 0
+        print $1, $2, 818 * 252, $4, $5, $6
+        for (leaf = 0; leaf < 818; leaf++) print "use", leaf
     }
     END { print "end" }' /tmp/plain.txt >/tmp/nearly.txt
 thin_restore -i /tmp/nearly.txt -o /dev/mapper/harm
 L thin_check /dev/mapper/harm
 is 'the check is clean' said '^clean$'
-is 'it says how full the metadata is' said 'harm is 9[0-9] % full, [0-9]* of 1024 blocks of metadata: lvextend --poolmetadatasize'
+is 'it says how full the metadata is' said 'harm is 9[0-9] % full, [0-9]* of 1024 blocks of metadata .*: lvextend --poolmetadatasize'
 unharm
 L vgchange -ay vg
 is 'LVM shows it when it activates' said 'vg-pool_tmeta is 9[0-9] % full'
 is 'the volume reads what it read' same /dev/vg/volume 0 2 0
-L lvcreate -y -s vg/volume -n snapshot -kn
 # each write to a leaf that the snapshot shares takes a block
 writes=0
-while [ $writes -lt 300 ] && dd if=/dev/vdc of=/dev/vg/volume bs=64k seek=$((writes * 252 + 32)) count=1 oflag=direct conv=notrunc 2>/dev/null; do
+while [ $writes -lt 300 ] && dd if=/dev/vdc of=/dev/vg/volume bs=64k seek=$((writes * 252 + 100)) count=1 oflag=direct conv=notrunc 2>/dev/null; do
     writes=$((writes + 1))
 done
 say "$writes writes went well"

@@ -207,16 +207,22 @@ for shell in dash bash 'busybox sh'; do
     fi
 done
 
-# Metadata that is nearly full: the text of 1000 mappings for each device takes as many blocks as are there, or some more
+# Metadata that is nearly full: the generated text takes as many blocks as are there, or some less, or so few that nothing is said. A kernel
+# keeps a tenth for itself.
 need=$(thin_rehearse --number 100 -o new.img | sed -n 's/^rehearsal 100 used \([0-9]*\) .*$/\1/p')
 thin_generate --number 100 -o full.txt
-cures='lvextend --poolmetadatasize +SIZE VG/POOL makes it larger'
-for blocks in "$need" $((need + 50)) $((need * 10 / 9)) $((need * 10 / 9 + 1)); do
+cures='lvextend --poolmetadatasize +SIZE VG/POOL gives it room'
+said=0
+for blocks in "$need" $((need + 20)) $((need * 10 / 9)) $((need * 10 / 9 + 30)) $((need * 5 / 4)) $((need * 5 / 4 + 5)) $((need * 2)); do
+    percent=$(((need + blocks / 10) * 100 / blocks))
+    [ "$percent" -le 100 ] || percent=100
+    filled="$percent % full, $need of $blocks blocks of metadata and $((blocks / 10)) that a kernel keeps for itself"
     zeros full.img "$blocks"
     try 0 thin_restore -i full.txt -o full.img
     set --
-    if [ $((need * 10)) -ge $((blocks * 9)) ]; then
-        set -- "thin_check: full.img is $((need * 100 / blocks)) % full, $need of $blocks blocks of metadata: $cures"
+    if [ "$percent" -ge 90 ]; then
+        said=$((said + 1))
+        set -- "thin_check: full.img is $filled: $cures"
     fi
     try 0 thin_check full.img
     out clean
@@ -230,18 +236,20 @@ for blocks in "$need" $((need + 50)) $((need * 10 / 9)) $((need * 10 / 9 + 1)); 
     zeros repaired.img "$blocks"
     try 0 "$lvm/thin_repair" -i full.img -o repaired.img
     set -- 'thin_repair: keeps 100 of 100 devices, 200000 of 200000 mappings'
-    if [ $((need * 10)) -ge $((blocks * 9)) ]; then
-        used=$(od -An -tu8 -j200 -N8 repaired.img | tr -d ' ')
-        set -- "$@" "thin_repair: full.img was $((need * 100 / blocks)) % full, $need of $blocks blocks of metadata, and a repair makes nothing larger: $used of $blocks blocks are used now. $cures"
+    if [ "$percent" -ge 90 ]; then
+        used=$(number_in repaired.img 8 200)
+        set -- "$@" "thin_repair: full.img was $filled, and a repair makes nothing larger: now $used of $blocks are used. $cures"
     fi
     notes "$@"
 done
+what='nearly full metadata'
+[ "$said" -eq 5 ] || bad "it is said of $said"
 # with a fault elsewhere it is said, too; with one of block 0 it isn't
 zeros full.img "$need"
 try 0 thin_restore -i full.txt -o full.img
 dd if=/dev/zero bs=4096 count=1 2>/dev/null | dd of=full.img bs=4096 seek=$((need - 2)) conv=notrunc 2>/dev/null
 try 1 thin_check full.img
-notes_have "thin_check: full.img is 100 % full, $need of $need blocks of metadata: $cures"
+notes_have "thin_check: full.img is 100 % full, $need of $need blocks of metadata and $((need / 10)) that a kernel keeps for itself: $cures"
 poke full.img 500 '\377'
 try 1 thin_check full.img
 out 'fault meta 0 checksum' 'faults 1'
