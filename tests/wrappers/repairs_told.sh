@@ -158,6 +158,41 @@ printf '%s\n' 'device 1 kept 0 of 5' 'device 2 kept 0 of ?' 'keeps 2 0 need 9 sh
 repairs 1 program/thin_repair -i $pool
 notes_have "thin_repair: nothing would be kept: $refused"
 
+# LVM's command takes an older state with fewer devices with --force alone
+cat >program/states <<END
+#!/bin/sh
+case "\$*" in
+*--dry-run*--transaction-id*) cat '$tmp/listed.txt' ;;
+*--dry-run*) cat '$tmp/told.txt' ;;
+*'--until whole'*) exit 1 ;;
+*--transaction-id*) echo "\$*" >'$tmp/written' ;;
+*thin_repair*) echo "\$*" >'$tmp/written' ;;
+esac
+END
+chmod +x program/states
+sed "s|^program=.*|program=$tmp/program/states|" "$lvm/thin_repair" >program/lvm-states
+chmod +x program/lvm-states
+printf '%s\n' 'device 1 kept 5 of 5' 'device 2 lost 9' 'device 3 lost 2' 'keeps 1 5 need 9 shared 9' >told.txt
+printf '%s\n' 'roots 3 4 devices 2 mappings 14 transaction 5 time 2' 'keeps 2 14 need 9 shared 9' >listed.txt
+try 1 program/lvm-states -i $pool -o fresh.img
+notes 'thin_repair: keeps 1 of 3 devices, 5 of 16 mappings' "$lost_something" 'device 2 lost 9' 'device 3 lost 2' \
+    "thin_repair: devices of $pool would be lost, and so in an older state, which has 2 with 14 mappings: --force takes it; $page"
+[ ! -e written ] || bad 'it is written'
+try 0 program/lvm-states --force --unshared -i $pool -o fresh.img
+notes "thin_repair: by its superblock 5 mappings of $pool are left, and 14 in an older state, which is taken: see thin_repair(8)"
+echo "thin_repair -i $pool -o fresh.img --mapping-root 3 --details-root 4 $given" >wanted
+same written wanted
+rm written
+: >listed.txt
+try 1 program/lvm-states -i $pool -o fresh.img
+notes_have "thin_repair: devices of $pool would be lost, and no older state has more: nothing is repaired without --force; $page"
+[ ! -e written ] || bad 'it is written'
+try 0 program/lvm-states --force -i $pool -o fresh.img
+echo "thin_repair --shared -i $pool -o fresh.img" >wanted
+same written wanted
+try 1 "$lvm/cache_repair" --force -i cache.img -o fresh.img
+notes "cache_repair: --force isn't taken; $page"
+
 # The details are lost: their mappings are all kept, or it is said that nothing is known. LVM's command says where details stand.
 repairs 0 thin_repair -i details.img
 notes 'thin_repair: keeps 7 of ? devices, 1461 of ? mappings' \
