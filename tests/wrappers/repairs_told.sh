@@ -176,7 +176,7 @@ printf '%s\n' 'device 1 kept 5 of 5' 'device 2 lost 9' 'device 3 lost 2' 'keeps 
 printf '%s\n' 'roots 3 4 devices 2 mappings 14 transaction 5 time 2' 'keeps 2 14 need 9 shared 9' >listed.txt
 try 1 program/lvm-states -i $pool -o fresh.img
 notes 'thin_repair: keeps 1 of 3 devices, 5 of 16 mappings' "$lost_something" 'device 2 lost 9' 'device 3 lost 2' \
-    "thin_repair: devices of $pool would be lost, and so in an older state, which has 2 with 14 mappings: --force takes it; $page"
+    "thin_repair: devices of $pool would be lost: an older state has 2 devices and 14 mappings, and is taken with --force; $page"
 [ ! -e written ] || bad 'it is written'
 try 0 program/lvm-states --force --unshared -i $pool -o fresh.img
 notes "thin_repair: by its superblock 5 mappings of $pool are left, and 14 in an older state, which is taken: see thin_repair(8)"
