@@ -61,6 +61,10 @@ if command -v python3 >/dev/null && python3 -c 'import pty' 2>/dev/null; then
     cat >stops/program-in <<END
 #!/bin/sh
 [ \$# -gt 0 ] || exec $PROGRAM
+# (what a repair would keep isn't told)
+case \$* in
+*--dry-run*) exit 6 ;;
+esac
 echo \$\$ >stops/number
 echo 'pdata_tools: of the program' >&2
 dd if=/dev/zero of=stops/out.img bs=4096 count=1 conv=notrunc 2>/dev/null
