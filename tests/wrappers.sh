@@ -2460,5 +2460,8 @@ for kind in first upgrade; do
     rm -rf steps/*
 done
 
+# shellcheck source=tests/wrappers/package_names.sh
+. "$here/tests/wrappers/package_names.sh"
+
 printf 'wrappers: %s tries, %s wrong\n' "$tries" "$wrong"
 [ "$wrong" -eq 0 ]
