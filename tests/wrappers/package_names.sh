@@ -1,4 +1,4 @@
-# shellcheck shell=sh disable=SC2154,SC2034 # tests/wrappers.sh sets what is used here, and reads what is set
+# shellcheck shell=sh disable=SC2154,SC2034 # lib.sh sets what is used here, and reads what is set
 # The packages: both archives, the names that the Debian package gives its commands and pages, and what it says after an upgrade and a
 # removal
 
