@@ -35,7 +35,7 @@ for name in VERSION install commands completion lvm man; do
     cp -R "$here/$name" copy
 done
 # a text that is missing, is empty, or is no script: nothing is installed
-for text in VERSION commands/common commands/running commands/full commands/repairing commands/tool completion/pdata_tools lvm/check lvm/thin_dump lvm/initramfs-hook man/thin_ls.8; do
+for text in VERSION commands/common commands/running commands/words commands/full commands/repairing commands/tool completion/pdata_tools lvm/check lvm/thin_dump lvm/initramfs-hook man/thin_ls.8; do
     for harm in missing empty; do
         mv "copy/$text" kept
         [ $harm = missing ] || : >"copy/$text"
