@@ -112,6 +112,15 @@ END
             done
         done
     done
+    # a check that clears a flag writes no block but that one
+    for where in pipe terminal; do
+        cp thin-pool.img stops/out.img
+        stopping thin_check "$prefix/sbin/thin_check" in
+        stopped "$where" TERM stops/thin_check --clear-needs-check-flag stops/out.img
+        notes 'pdata_tools: of the program' \
+            'thin_check: stopped: of stops/out.img no other block than block 0 was written: check it again'
+        is_ended
+    done
     # LVM's
     for where in pipe terminal; do
         for signal in HUP INT QUIT PIPE TERM; do
