@@ -149,4 +149,4 @@ zeros spare.img 869
 try 4 thin_rehearse --number 100 -o spare.img
 out
 notes 'pdata_tools: no room: need 870, blocks 869' \
-    'thin_rehearse: a block has 4 KiB: the blocks needed, divided by 256, are the MiB to give lvcreate -L'
+    'thin_rehearse: a block has 4 KiB: 870 blocks are the least that fits, lvcreate -L 4M'

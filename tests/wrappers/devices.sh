@@ -180,9 +180,9 @@ if mknod held b 250 250 2>/dev/null && [ -b held ]; then
         done
         try 5 sbin-looking/thin_dump -o held thin-pool.img
         notes "thin_dump: held is $in_use: nothing is written"
-        try 5 sbin-looking/thin_check held
+        try 5 sbin-looking/thin_check --force held
         notes "thin_check: held is $in_use: it changes while it is read" 'pdata_tools: device fault'
-        try 5 sbin-looking/thin_repair -i held -o fresh.img
+        try 5 sbin-looking/thin_repair --force -i held -o fresh.img
         notes "thin_repair: held is $in_use: it changes while it is read" 'pdata_tools: device fault'
         try 1 looking/thin_check -q --clear-needs-check-flag held
         notes "thin_check: held is $in_use: nothing is written"

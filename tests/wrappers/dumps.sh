@@ -116,7 +116,7 @@ zeros small.img 17
 try 4 thin_restore -i shared.txt -o small.img
 out
 notes 'pdata_tools: no room: need 18, blocks 17' \
-    'thin_restore: a block has 4 KiB: the blocks needed, divided by 256, are the MiB to give lvcreate -L'
+    'thin_restore: a block has 4 KiB: at least 18 blocks are needed, lvcreate -L 1M; the rest of the text may need more'
 # a number of mappings that no leaf has, a leaf that no device uses, and the second version of no other text
 sed '3s/^leaf 0 .*/leaf 0 253/' shared.txt >refused.txt
 zeros new.img 1024

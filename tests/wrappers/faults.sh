@@ -80,18 +80,19 @@ out
 notes 'pdata_tools: device fault' "thin_dump: $first" "thin_dump: $helps"
 zeros wanted.img 1024
 try 0 thin_repair -i zeroed.img -o wanted.img
+keeps='thin_repair: keeps 7 of ? devices, 1461 of ? mappings'
+details_lost='thin_repair: the details of 7 devices are lost, their mappings are all kept as far as can be told'
+notes "$keeps" "$details_lost"
 try 0 thin_repair --dry-run -i zeroed.img
-kept=$(grep '^device .* of ?$' out)
+[ "$(grep -c '^device .* of ?$' out)" -eq 7 ] || bad 'not all details are lost'
 for command in thin_repair lvm-thin_repair; do
     zeros fresh.img 1024
     failing 0 failing/$command -i bad.img -o fresh.img
     out
+    set -- 'pdata_tools: device fault' "thin_repair: $first" "thin_repair: $of_copy" "$keeps" "$details_lost"
     case $command in
-    thin_repair) notes 'pdata_tools: device fault' "thin_repair: $first" "thin_repair: $of_copy" ;;
-    *)
-        notes 'pdata_tools: device fault' "thin_repair: $first" "thin_repair: $of_copy" \
-            'thin_repair: what is kept of the devices that lost something:' "$kept"
-        ;;
+    thin_repair) notes "$@" ;;
+    *) notes "$@" 'thin_repair: a whole details tree of an older state is unused, at block 168: see --details-root in thin_repair(8)' ;;
     esac
     same fresh.img wanted.img
     # no room for a copy

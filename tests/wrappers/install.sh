@@ -32,8 +32,8 @@ chmod +x program
 PROGRAM=$tmp/program
 copy_parts copy VERSION install commands completion lvm man
 # a text that is missing, is empty, or is no script: nothing is installed
-for text in VERSION commands/common commands/running commands/tool completion/pdata_tools lvm/check lvm/thin_dump lvm/initramfs-hook \
-    man/thin_ls.8 crates/pd_word_list/stdout; do
+for text in VERSION commands/common commands/running commands/words commands/full commands/repairing commands/tool \
+    completion/pdata_tools lvm/check lvm/thin_dump lvm/initramfs-hook man/thin_ls.8 crates/pd_word_list/stdout; do
     for harm in missing empty; do
         mv "copy/$text" kept
         [ $harm = missing ] || : >"copy/$text"

@@ -1,6 +1,7 @@
 # shellcheck shell=sh disable=SC2154,SC2034 # lib.sh sets what is used here, and reads what is set
 # The commands for LVM, which end with 0 or 1 alone
 
+whole='thin_repair: keeps 7 of 7 devices, 1461 of 1461 mappings'
 for tool in thin_check cache_check thin_repair cache_repair thin_dump; do
     try 0 "$lvm/$tool" -V
     out "0.9.0 pdata_tools $release"
@@ -51,7 +52,7 @@ same flag.img cache.img
 try 1 "$lvm/cache_check" -q thin-pool.img
 zeros fresh.img 1024
 try 0 "$lvm/thin_repair" '' -i leak.img -o fresh.img
-notes
+notes "$whole"
 try 0 thin_check fresh.img
 # the kernel left older states behind: the first has a device more, which was removed since
 try 0 "$lvm/thin_repair" -i damaged.img -o fresh.img
@@ -186,11 +187,19 @@ echo "thin_repair --shared -i thin-pool.img -o fresh.img --mapping-root 7 --deta
 same repaired wanted
 # it has no more; or it is the superblock's own; or there is none: nothing else is written
 rm repaired
+set -- 'thin_repair: keeps 1 of 2 devices, 5 of 14 mappings' \
+    'thin_repair: what is kept of the devices that lost something:' 'device 2 lost 9'
+refused="thin_repair: devices of thin-pool.img would be lost, and no older state has more: nothing is repaired without --force; see pdata_tools-lvm(8)"
 for line in 'roots 3 4 devices 2 mappings 5 transaction 5 time 2' "roots $own devices 2 mappings 9 transaction 5 time 2" ''; do
     printf '%s\n' "$line" | sed '/^$/d' >listed.txt
-    try 0 states/thin_repair -i thin-pool.img -o fresh.img
+    cp fresh.img before.img
+    try 1 states/thin_repair -i thin-pool.img -o fresh.img
     out
-    notes 'thin_repair: what is kept of the devices that lost something:' 'device 2 lost 9'
+    notes "$@" "$refused"
+    same fresh.img before.img
+    try 0 states/thin_repair --force -i thin-pool.img -o fresh.img
+    out
+    notes "$@"
     [ ! -e repaired ] || bad 'a second repair'
     try 0 thin_dump fresh.img
     same out thin-pool.txt
@@ -198,22 +207,26 @@ done
 # the list breaks off: none of it is taken
 echo 'roots 3 4 devices 2 mappings 9 transaction 5 time 2' >listed.txt
 : >breaks
-try 0 states/thin_repair -i thin-pool.img -o fresh.img
-notes 'thin_repair: what is kept of the devices that lost something:' 'device 2 lost 9'
+try 1 states/thin_repair -i thin-pool.img -o fresh.img
+notes "$@" "$refused"
 [ ! -e repaired ] || bad 'a repair by a list that broke off'
 rm breaks
-# its repair fails: the first one is made again
+# its repair fails: what the superblock names is repaired with --force alone
 : >fails
 zeros fresh.img 1024
-try 0 states/thin_repair -i thin-pool.img -o fresh.img
-notes 'thin_repair: what is kept of the devices that lost something:' 'device 2 lost 9'
+try 1 states/thin_repair -i thin-pool.img -o fresh.img
+notes "$@" "$refused"
+try 0 states/thin_repair --force -i thin-pool.img -o fresh.img
+notes "$@"
 try 0 thin_dump fresh.img
 same out thin-pool.txt
 rm fails repaired
 : >listed.txt
 printf 'device 2 lost 9\nkeeps 0 0 need 8 shared 8\n' >told.txt
 try 1 states/thin_repair -i thin-pool.img -o fresh.img
-notes 'thin_repair: by its superblock nothing of thin-pool.img is left, and no older state was found: nothing is repaired; see pdata_tools-lvm(8)'
+notes 'thin_repair: keeps 0 of 1 devices, 0 of 9 mappings' \
+    'thin_repair: what is kept of the devices that lost something:' 'device 2 lost 9' \
+    'thin_repair: by its superblock nothing of thin-pool.img is left, and no older state was found: nothing is repaired without --force; see pdata_tools-lvm(8)'
 # the details are lost, too: the first state is taken, and no empty one
 echo 'keeps 0 0 need 8 shared 8' >told.txt
 cat >listed.txt <<END
@@ -228,10 +241,10 @@ rm repaired
 # a pool without devices
 echo "roots $own devices 0 mappings 0 transaction 5 time 2" >listed.txt
 try 0 states/thin_repair -i thin-pool.img -o fresh.img
-notes
+notes 'thin_repair: keeps 0 of 0 devices, 0 of 0 mappings'
 # nothing is damaged: an older state, with volumes that were removed, isn't looked for
 : >whole
 echo 'roots 3 4 devices 2 mappings 9 transaction 5 time 2' >listed.txt
 try 0 states/thin_repair -i thin-pool.img -o fresh.img
-notes
+notes 'thin_repair: keeps 0 of 0 devices, 0 of 0 mappings'
 [ ! -e repaired ] || bad 'a search of a sound pool'

@@ -7,14 +7,15 @@ zeros fresh.img 1024
 cp leak.img before.img
 try 0 thin_repair -i leak.img -o fresh.img
 out
-notes
+whole='thin_repair: keeps 7 of 7 devices, 1461 of 1461 mappings'
+notes "$whole"
 same leak.img before.img
 try 0 thin_check fresh.img
 out clean
 try 0 thin_dump fresh.img
 same out thin-pool.txt
 # without the mapping tree there is no device
-try 0 thin_repair -i damaged.img -o fresh.img
+try 0 thin_repair --force -i damaged.img -o fresh.img
 try 0 thin_check fresh.img
 try 0 thin_dump fresh.img
 {
@@ -69,10 +70,10 @@ for name in leak damaged details leaf; do
         esac
         zeros fresh.img $((need - 1))
         # shellcheck disable=SC2086 # an option that isn't there is no word
-        try 4 thin_repair $option -i $name.img -o fresh.img
+        try 4 pdata_tools thin_repair $option -i $name.img -o fresh.img
         zeros fresh.img "$need"
         # shellcheck disable=SC2086
-        try 0 thin_repair $option -i $name.img -o fresh.img
+        try 0 pdata_tools thin_repair $option -i $name.img -o fresh.img
         try 0 thin_dump fresh.img
         tells told.txt out
     done
@@ -106,7 +107,7 @@ sed 's/^\(pool [^ ]*\) 0/\1 1/; s/^\(device .*\) 0$/\1 1/' shared.txt >seen.txt
 zeros snapped.img 16
 try 0 thin_restore -i shared.txt -o snapped.img
 zeros ten.img 10
-try 4 thin_repair -i snapped.img -o ten.img
+try 4 thin_repair --unshared -i snapped.img -o ten.img
 notes_have 'pdata_tools: no room: need 11, blocks 10'
 given='--transaction-id 0 --data-block-size 128 --nr-data-blocks 2'
 for words in '' "$given" "--mapping-root $(number_in snapped.img 8 320) --details-root $(number_in snapped.img 8 328) $given"; do
@@ -117,7 +118,7 @@ for words in '' "$given" "--mapping-root $(number_in snapped.img 8 320) --detail
     '' | --mapping-root*) out ;;
     *) grep -q '^roots .* mappings 4 time 0$' out || bad 'other roots' ;;
     esac
-    notes
+    notes 'thin_repair: keeps 2 of 2 devices, 4 of 4 mappings'
     try 0 thin_check ten.img
     try 0 thin_dump --shared ten.img
     case $words in
@@ -135,7 +136,7 @@ try 0 thin_dump --shared ten.img
 same out shared.txt
 zeros nine.img 9
 try 1 "$lvm/thin_repair" -i snapped.img -o nine.img
-notes 'pdata_tools: no room: need 10, blocks 9' \
+notes 'thin_repair: keeps 2 of 2 devices, 4 of 4 mappings' 'pdata_tools: no room: need 10, blocks 9' \
     "thin_repair: for what is kept a volume has to be larger: repair by hand, after lvcreate -L 1M; see pdata_tools-lvm(8)"
 
 # Caches: a sound one stays as it is, in either version; what may be dirty stays dirty

@@ -1,6 +1,7 @@
 # shellcheck shell=sh disable=SC2154,SC2034 # lib.sh sets what is used here, and reads what is set
 # Repairs without the superblock: searches, the states that they choose from, and roots that are named
 
+whole='thin_repair: keeps 7 of 7 devices, 1461 of 1461 mappings'
 lose_leaf
 
 # Searches, in which block 0 isn't looked at: the kernel left older trees with more mappings, in which device 2 wasn't deleted
@@ -14,7 +15,7 @@ cp lost.img before.img
 zeros fresh.img 1024
 search 0 lost.img 4000
 out 'roots 183 184 mappings 1461 time 4'
-notes
+notes "$whole"
 same lost.img before.img
 try 0 thin_check fresh.img
 out clean
@@ -73,7 +74,7 @@ for name in lost leak damaged details leaf; do
     notes
     for option in '' --shared; do
         zeros fresh.img 1024
-        try 0 thin_repair $option -i $name.img -o fresh.img $roots $given
+        try 0 pdata_tools thin_repair $option -i $name.img -o fresh.img $roots $given
         out
         notes
         try 0 thin_check fresh.img
@@ -124,7 +125,7 @@ for name in leak damaged details leaf; do
     *) ! grep -q "^roots $(roots_in $name.img) " out || bad 'it is listed' ;;
     esac
     zeros fresh.img 1024
-    try 0 thin_repair -i $name.img -o fresh.img
+    try 0 pdata_tools thin_repair -i $name.img -o fresh.img
     try 0 thin_dump fresh.img
     case $name in
     leak | leaf) mv out kept.txt ;;
@@ -138,7 +139,7 @@ for name in leak damaged details leaf; do
     esac
     for option in '' --shared; do
         zeros fresh.img 1024
-        try 0 thin_repair $option -i $name.img -o fresh.img $roots $given
+        try 0 pdata_tools thin_repair $option -i $name.img -o fresh.img $roots $given
         out
         notes
         try 0 thin_check fresh.img
@@ -150,7 +151,7 @@ done
 cp leaf.img lost-leaf.img
 dd if=/dev/zero of=lost-leaf.img bs=4096 count=1 conv=notrunc 2>/dev/null
 # shellcheck disable=SC2086
-try 0 thin_repair --shared -i lost-leaf.img -o fresh.img $roots $given
+try 0 pdata_tools thin_repair --shared -i lost-leaf.img -o fresh.img $roots $given
 out
 notes
 try 0 thin_dump fresh.img
@@ -171,7 +172,7 @@ for root in 0 $(($(wc -c <lost.img) / 4096)) 18446744073709551615; do
         fi
         zeros fresh.img "$(cat lines)"
         # shellcheck disable=SC2046,SC2086
-        try 0 thin_repair -i $image.img -o fresh.img $(roots_at $root $root) $given
+        try 0 pdata_tools thin_repair -i $image.img -o fresh.img $(roots_at $root $root) $given
         try 0 thin_dump fresh.img
         same out kept.txt
     done

@@ -45,9 +45,14 @@ synopsis_of() {
 for tool in $tools; do
     grep "^$tool " "$table" | plain >wanted
     what="$tool --help"
-    "$tool" --help | sed -e 's/^usage: //' -e '/^ *STAGE:/d' -e '/^ *see /d' | plain >got
+    "$tool" --help | sed -e 's/^usage: //' -e '/^ *STAGE:/d' -e '/^ *see /d' -e '/^  -/,$d' | plain >got
     same wanted got
+    what="the lines of $tool --help"
+    grep "^$tool " "$table" | tr -s ' []' '\n' | grep '^-' | sort -u >wanted
+    "$tool" --help | sed -n 's/^  \(-[a-z-]*\) .*/\1/p' | sort -u | comm -23 wanted - >differs
+    [ ! -s differs ] || bad "nothing says what these do: $(cat differs)"
     what="the synopsis of $tool.8"
+    grep "^$tool " "$table" | plain >wanted
     synopsis_of "$tool" | plain >got
     same wanted got
 done
@@ -115,6 +120,7 @@ for tool in $tools; do
     grep -q "^usage: $tool " synopsis || bad 'no synopsis'
     try 0 "$tool" --help
     same out synopsis
+    sed -i '/^  -/,$d' synopsis
     for word in -V --version; do
         try 0 "$tool" "$word"
         out "$tool (pdata_tools) $release"
@@ -124,7 +130,7 @@ for tool in $tools; do
         try 2 "$tool" ${word:+"$word"}
         out
         [ "$(sed 1q notes)" = "$usage" ] || bad 'the program was to say it first'
-        sed 1d notes >rest
+        sed -e 1d -e "/^$tool: /d" notes >rest
         same rest synopsis
     done
 done
@@ -157,10 +163,11 @@ for word in -q --quiet; do
     try 0 thin_dump $word thin-pool.img
     same out thin-pool.txt
 done
-for word in --super-block-only --until=super; do
-    try 0 thin_check $word damaged.img
-    out clean
-done
+try 0 thin_check --until=super damaged.img
+out clean
+# (and two numbers, as theirs prints them)
+try 0 thin_check --super-block-only damaged.img
+out clean TRANSACTION_ID=5 METADATA_FREE_BLOCKS=1000
 for word in --output=dumped.txt '--output dumped.txt'; do
     rm -f dumped.txt
     # shellcheck disable=SC2086 # two words
