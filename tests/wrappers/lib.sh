@@ -176,6 +176,17 @@ prepare() {
     chmod +x full/df
 }
 
+# Copies these parts of the repository into a new folder, and the table of words, which ./install and ./package read
+copy_parts() {
+    copied=$1
+    shift
+    mkdir -p "$copied/crates/pd_word_list"
+    cp "$table" "$copied/crates/pd_word_list"
+    for part do
+        cp -R "$here/$part" "$copied"
+    done
+}
+
 # Tries what a file has, in a folder that has these files alone, and adds its numbers. What it sets is gone afterwards
 try_file() {
     tmp=$work/$1
