@@ -169,8 +169,23 @@ done
 
 # shellcheck disable=SC3045 # a shell without such limits is skipped
 if (ulimit -v 1048576 && ulimit -s 1024) 2>/dev/null; then
-    try 7 sh -c 'ulimit -v 4096 && exec thin_check thin-pool.img'
-    notes_have 'thin_check: the address space is limited to 4096 KiB (ulimit -v), of which the program takes 1664 for its stack'
+    # (with less the shell itself may not start, or a tool that it calls)
+    seen=''
+    for limit in 3000 3200 3400 3600 3800 4000 4200 4400; do
+        what="thin_check with $limit KiB of address space"
+        tries=$((tries + 1))
+        (ulimit -v $limit && exec thin_check thin-pool.img) >out 2>notes
+        case $? in
+        0) [ "$(cat out)" = clean ] || bad 'status 0, and not clean' ;;
+        7)
+            seen=yes
+            notes_have "thin_check: the address space is limited to $limit KiB (ulimit -v), of which the program takes 1664 for its stack"
+            ;;
+        2 | 8 | 12[67]) [ ! -s out ] || bad 'a report of a program that did not run' ;;
+        *) bad 'another status' ;;
+        esac
+    done
+    [ -n "$seen" ] || bad 'no limit was too low for the stack alone'
     try 139 sh -c 'ulimit -s 1024 && exec thin_check thin-pool.img'
     notes_have 'thin_check: the stack is limited to 1024 KiB, and the program takes 1664 of it when it begins: ulimit -s 8192'
 else
