@@ -1,4 +1,4 @@
-# shellcheck shell=sh disable=SC2154,SC2153 # what is used here is set before
+# shellcheck shell=sh disable=SC2154,SC2153,SC2034 # what is used here is set before, and what is set is read there
 # What the commands say beyond the program: of words that aren't known, of files that are no metadata, of a program that can't be
 # started, and of too little room and memory
 
