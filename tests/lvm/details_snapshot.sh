@@ -7,8 +7,10 @@ L vgcreate vg /dev/vda
 L lvcreate -y --type thin-pool -L 512M --poolmetadatasize 8M -n pool vg
 L lvcreate -y -V 128M -T vg/pool -n volume
 wr /dev/vg/volume 0 20 0
-L lvcreate -y -s vg/volume -n snapshot -kn
-before=$(sum /dev/vg/snapshot 0 128)
+L lvcreate -y -s vg/volume -n copy -kn
+is 'the snapshot is made' [ "$rc" = 0 ]
+before=$(sum /dev/vg/copy 0 128)
+is 'it has what was written' same /dev/vg/copy 0 20 0
 L vgchange -an vg
 harm pool_tmeta
 details=$(number_at /dev/mapper/harm 328)
@@ -27,5 +29,5 @@ L vgchange -an vg
 L vgchange -ay vg
 is 'the volume has what was written' same /dev/vg/volume 0 5 40
 is 'the rest of it is as before' same /dev/vg/volume 5 15 5
-is 'the snapshot is as before' [ "$(sum /dev/vg/snapshot 0 128)" = "$before" ]
+is 'the snapshot is as before' [ "$(sum /dev/vg/copy 0 128)" = "$before" ]
 L vgchange -an vg
