@@ -149,10 +149,9 @@ plain_need=$(awk '$1 == "keeps" { print $5 }' out)
 shared_need=$(awk '$1 == "keeps" { print $7 }' out)
 for blocks in 1 2 17 $((plain_need - 1)); do
     zeros fresh.img "$blocks"
-    for option in '' --shared; do
-        [ -n "$option" ] && need=$shared_need || need=$plain_need
+    for option in --unshared --shared; do
+        [ "$option" = --shared ] && need=$shared_need || need=$plain_need
         [ "$blocks" -lt "$need" ] || continue
-        # shellcheck disable=SC2086 # an option that isn't there is no word
         try 4 thin_repair $option -i leak.img -o fresh.img
         notes_have "thin_repair: a block has 4 KiB: $need blocks are the least that fits, lvcreate -L $(((need + 255) / 256))M"
     done
@@ -182,13 +181,13 @@ fi
 
 for region in 100..102 0..3 640..650; do
     thin_rmap --region $region thin-pool.img
-done >wanted
+done >each.txt
 try 0 thin_rmap --region 100..102 --region 0..3 --region=640..650 thin-pool.img
-same out wanted
+same out each.txt
 notes
 try 0 thin_rmap --region 100..102 -o regions.txt --region 0..3 thin-pool.img --region 640..650
 out
-same regions.txt wanted
+same regions.txt each.txt
 try 0 thin_rmap --region 100..101 thin-pool.img
 out 'block 100 device 3 virtual 100'
 try 1 thin_rmap --region 100..102 --region 0..3 damaged.img
