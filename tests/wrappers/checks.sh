@@ -9,11 +9,11 @@ for kind in thin cache era; do
     try 0 pdata_tools ${kind}_check $image
     out clean
     try 0 ${kind}_check $image
-    out clean
+    checked $image
     notes
     for stage in super walk order whole counts; do
         try 0 ${kind}_check --until $stage $image
-        out clean
+        checked $image
     done
     try 5 ${kind}_check missing.img
     out
@@ -46,9 +46,9 @@ try 1 thin_check leak.img
 out 'fault data 15 leak stored 1 references 0' 'faults 1'
 notes
 try 0 thin_check --until whole leak.img
-out clean
+checked leak.img
 try 0 thin_check --ignore-non-fatal-errors leak.img
-out 'fault data 15 leak stored 1 references 0' 'faults 1'
+checked leak.img 'fault data 15 leak stored 1 references 0' 'faults 1'
 notes
 try 0 pdata_tools thin_check --until counts --ignore-non-fatal-errors leak.img
 try 1 thin_check short.img
@@ -87,7 +87,7 @@ cp set.img flag.img
 try 0 thin_check flag.img
 same flag.img set.img
 try 0 thin_check --clear-needs-check-flag flag.img
-out clean
+checked flag.img
 same flag.img thin-pool.img
 cp leak.img before.img
 try 1 thin_check --clear-needs-check-flag leak.img

@@ -19,7 +19,7 @@ for kind in thin cache era; do
     out
     notes
     try 0 ${kind}_check new.img
-    out clean
+    checked new.img
     try 0 ${kind}_dump new.img
     same out $name.txt
     try 4 ${kind}_restore -i $name.txt -o small.img
@@ -56,7 +56,7 @@ try 0 thin_dump --shared -o leak.txt leak.img
 zeros new.img 1024
 try 0 thin_restore -i leak.txt -o new.img
 try 0 thin_check new.img
-out clean
+checked new.img
 # with its shared leaves told once, a pool has the same mappings
 try 0 thin_dump --shared -o shared.txt thin-pool.img
 [ "$(sed -n 1p shared.txt)" = 'thin 2' ] || bad 'not version 2'
@@ -76,7 +76,7 @@ try 2 cache_dump --shared cache.img
 zeros new.img 1024
 try 0 thin_restore -i shared.txt -o new.img
 try 0 thin_check new.img
-out clean
+checked new.img
 try 0 thin_dump new.img
 same out thin-pool.txt
 # six devices that share two full leaves, one of them with mappings of its own besides
@@ -94,7 +94,7 @@ try 0 thin_restore -i shared.txt -o new.img
 out
 notes
 try 0 thin_check new.img
-out clean
+checked new.img
 try 0 thin_dump --shared new.img
 same out shared.txt
 try 0 thin_dump -o apart.txt new.img
@@ -146,6 +146,6 @@ notes
 what='the blocks that are used'
 [ "$(used new.img)" = 6174 ] || bad 'not 6174'
 try 0 thin_check new.img
-out clean
+checked new.img
 try 0 thin_dump new.img
 same out far.txt

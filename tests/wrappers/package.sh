@@ -23,7 +23,7 @@ if command -v sha256sum >/dev/null && command -v gzip >/dev/null && tar --versio
     same kept gate.log
     try 0 env PREFIX="$tmp/unpacked" PROGRAM="$tmp/$unpacked/pdata_tools" "$unpacked/install"
     try 0 unpacked/sbin/thin_check thin-pool.img
-    out clean
+    checked thin-pool.img
     echo 'more' >>"$unpacked/man/thin_ls.8"
     try 1 env PREFIX="$tmp/unpacked" PROGRAM="$tmp/$unpacked/pdata_tools" "$unpacked/install"
     notes_have "install: $tmp/$unpacked isn't as it was packed"

@@ -11,7 +11,7 @@ whole='thin_repair: keeps 7 of 7 devices, 1461 of 1461 mappings'
 notes "$whole"
 same leak.img before.img
 try 0 thin_check fresh.img
-out clean
+checked fresh.img
 try 0 thin_dump fresh.img
 same out thin-pool.txt
 # without the mapping tree there is no device

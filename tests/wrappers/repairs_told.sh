@@ -41,7 +41,7 @@ for words in '' "$given" "$named"; do
     repairs 0 thin_repair -q -i $pool $words
     notes
     try 0 thin_check fresh.img
-    out clean
+    checked fresh.img
     try 0 thin_dump fresh.img
     same out thin-pool.txt
 done
@@ -280,7 +280,7 @@ for blocks in "$need" $((need + 20)) $((need * 10 / 9)) $((need * 10 / 9 + 30)) 
         set -- "thin_check: full.img is $filled: $cures"
     fi
     try 0 thin_check full.img
-    out clean
+    checked full.img
     notes "$@"
     try 0 thin_check -q full.img
     out

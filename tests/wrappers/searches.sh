@@ -18,7 +18,7 @@ out 'roots 183 184 mappings 1461 time 4'
 notes "$whole"
 same lost.img before.img
 try 0 thin_check fresh.img
-out clean
+checked fresh.img
 try 0 thin_dump fresh.img
 same out thin-pool.txt
 cp fresh.img before.img

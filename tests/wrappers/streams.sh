@@ -38,11 +38,11 @@ END
     terminal thin_check thin-pool.img
     # (a busy machine may take two seconds for it, and then a line is erased)
     [ $(($(date +%s) - started)) -lt 2 ] || sed -i 's/^.*|//' out
-    out clean
+    checked thin-pool.img
     terminal slow/thin_dump thin-pool.img
     same out thin-pool.txt
     terminal 'slow/thin_check thin-pool.img 2>notes'
-    out clean
+    checked thin-pool.img
     notes
     terminal 'thin_check damaged.img 2>notes; echo "$?"'
     out 'fault meta 183 checksum' 'faults 1' 1
@@ -58,7 +58,7 @@ cp whole.img data.img
 # no file of standard input, and a text from there
 try 0 sh -c 'thin_restore -i /dev/stdin -o fresh.img <thin-pool.txt'
 try 0 sh -c 'thin_check thin-pool.img <&-'
-out clean
+checked thin-pool.img
 # what ends the command ends the program, too
 if command -v mkfifo >/dev/null; then
     mkfifo stopped

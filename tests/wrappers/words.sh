@@ -164,10 +164,9 @@ for word in -q --quiet; do
     same out thin-pool.txt
 done
 try 0 thin_check --until=super damaged.img
-out clean
-# (and two numbers, as theirs prints them)
+checked damaged.img
 try 0 thin_check --super-block-only damaged.img
-out clean TRANSACTION_ID=5 METADATA_FREE_BLOCKS=1000
+checked damaged.img
 for word in --output=dumped.txt '--output dumped.txt'; do
     rm -f dumped.txt
     # shellcheck disable=SC2086 # two words

@@ -225,24 +225,28 @@ same dumped.txt era.txt
 try 2 thin_dump --logical thin-pool.img
 notes_have 'thin_dump: --logical is none of its words'
 
-# The two numbers of a pool's superblock, with the word of thin-provisioning-tools for that, behind the report
+# The two numbers of a pool's superblock behind a report without faults, as thin-provisioning-tools print them
 
-try 0 thin_check --super-block-only thin-pool.img
-out clean TRANSACTION_ID=5 METADATA_FREE_BLOCKS=1000
-notes
-for words in '--super-block-only -q' '--until super -q'; do
+for words in '' --super-block-only '--until super' '--until whole'; do
+    # shellcheck disable=SC2086 # several words
+    try 0 thin_check $words thin-pool.img
+    out clean TRANSACTION_ID=5 METADATA_FREE_BLOCKS=1000
+    notes
+done
+for words in -q '--super-block-only -q' '--until super -q'; do
     # shellcheck disable=SC2086 # several words
     try 0 thin_check $words thin-pool.img
     out
 done
-# not of a superblock with faults, nor of another kind, nor where the word wasn't given
+# not of a pool with faults, nor of another kind, nor by the program or for LVM
 try 1 thin_check --super-block-only lost.img
 out 'fault meta 0 checksum' 'faults 1'
 for kind in cache era; do
     try 0 ${kind}_check --super-block-only $kind.img
     out clean
 done
-try 0 thin_check --until super thin-pool.img
+try 1 thin_check damaged.img
+try 0 pdata_tools thin_check thin-pool.img
 out clean
-try 0 thin_check thin-pool.img
+try 0 "$lvm/thin_check" thin-pool.img
 out clean

@@ -137,7 +137,7 @@ notes
 same meta.img before.img
 same data.img moved.img
 try 0 thin_check smaller.img
-out clean
+checked smaller.img
 try 0 thin_dump smaller.img
 same out smaller.txt
 # a pool isn't made larger
