@@ -168,7 +168,7 @@ for told in \
         exit 1
     }
 done
-grep -qF "$(rests_on thin_check_tells_clean) lines for \`thin_check\`" README.md || {
+tr '\n' ' ' <README.md | grep -qF "$(rests_on thin_check_tells_clean) lines for \`thin_check\`" || {
     printf 'README.md should say on how many lines thin_check rests\n'
     exit 1
 }
