@@ -193,7 +193,7 @@ try_file() {
     cp -R "$work/prepared" "$tmp"
     rm -f "$work/numbers"
     (
-        cd "$tmp" || exit 1
+        cd "$tmp" && sh -n "$here/tests/wrappers/$1.sh" || exit 1
         # shellcheck disable=SC1090 # the files of this folder
         . "$here/tests/wrappers/$1.sh"
         printf '%s %s\n' "$tries" "$wrong" >"$work/numbers"

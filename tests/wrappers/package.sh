@@ -40,6 +40,12 @@ if command -v sha256sum >/dev/null && command -v gzip >/dev/null && tar --versio
         same kept wanted
         sed -n 's/^complete -F _pdata_tools //p' extracted/usr/share/bash-completion/completions/* >kept
         same kept wanted
+        if command -v bash >/dev/null; then
+            # shellcheck disable=SC2016 # the inner shell's
+            try 0 bash -c '. "$0" && COMP_WORDS=("$@") && COMP_CWORD=1 && _pdata_tools && printf "%s\n" "${COMPREPLY[@]}"' \
+                extracted/usr/share/bash-completion/completions/pdata_thin_dump pdata_thin_dump -
+            out --shared -o --help --version
+        fi
     else
         skip 'the Debian package, as there is no dpkg-deb'
     fi
