@@ -83,6 +83,7 @@ out 'keeps 2 4 need 11 shared 10'
 mkdir program program/lvm program/states program/waits
 cat >program/pdata_tools <<END
 #!/bin/sh
+[ \$# -gt 0 ] || exec $PROGRAM
 case "\$*" in
 *--dry-run*) [ ! -e '$tmp/looks' ] || exit "\$(cat '$tmp/looks')" && cat '$tmp/told.txt' ;;
 *thin_repair*) [ ! -e '$tmp/repairs' ] || exit "\$(cat '$tmp/repairs')" ;;
@@ -161,6 +162,7 @@ notes_have "thin_repair: nothing would be kept: $refused"
 # LVM's command takes an older state with fewer devices with --force alone
 cat >program/states/pdata_tools <<END
 #!/bin/sh
+[ \$# -gt 0 ] || exec $PROGRAM
 case "\$*" in
 *--dry-run*--transaction-id*) cat '$tmp/listed.txt' ;;
 *--dry-run*) cat '$tmp/told.txt' ;;
@@ -229,6 +231,8 @@ notes "$all"
 mkdir temporary
 repairs 0 env TMPDIR="$tmp/temporary" thin_repair -i $pool
 notes "$all"
+[ -z "$(ls temporary)" ] || bad 'a file is left in the temporary folder'
+repairs 1 env TMPDIR="$tmp/temporary" thin_repair -i damaged.img
 [ -z "$(ls temporary)" ] || bad 'a file is left in the temporary folder'
 # a stop while it is looked: nothing is written, nothing is left, and the line is told
 cat >program/waits/pdata_tools <<END
