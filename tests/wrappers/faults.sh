@@ -32,10 +32,11 @@ fi
 exec $(command -v dd) "\$@"
 END
 chmod +x failing/*
+mkdir failing/lvm
 for tool in thin_check thin_repair thin_dump; do
     sed "s|^program=.*|program=$tmp/failing/program|" "$prefix/sbin/$tool" >"failing/$tool"
-    sed "s|^program=.*|program=$tmp/failing/program|" "$lvm/$tool" >"failing/lvm-$tool"
-    chmod +x "failing/$tool" "failing/lvm-$tool"
+    sed "s|^program=.*|program=$tmp/failing/program|" "$lvm/$tool" >"failing/lvm/$tool"
+    chmod +x "failing/$tool" "failing/lvm/$tool"
 done
 mkdir temporary
 failing() {
@@ -85,7 +86,7 @@ details_lost='thin_repair: the details of 7 devices are lost, their mappings are
 notes "$keeps" "$details_lost"
 try 0 thin_repair --dry-run -i zeroed.img
 [ "$(grep -c '^device .* of ?$' out)" -eq 7 ] || bad 'not all details are lost'
-for command in thin_repair lvm-thin_repair; do
+for command in thin_repair lvm/thin_repair; do
     zeros fresh.img 1024
     failing 0 failing/$command -i bad.img -o fresh.img
     out
@@ -100,7 +101,7 @@ for command in thin_repair lvm-thin_repair; do
     notes 'pdata_tools: device fault' "thin_repair: $first" \
         "thin_repair: a copy of it needs 4096 KiB, and $tmp/temporary has room for 0: TMPDIR=/folder names another folder"
 done
-failing 1 sh -c "exec failing/lvm-thin_check -q bad.img"
+failing 1 sh -c "exec failing/lvm/thin_check -q bad.img"
 notes_have "$first"
 # all is read in the second try: a fault that passes
 : >blocks

@@ -80,9 +80,10 @@ try 0 thin_repair --dry-run --unshared --force -i shared.img
 tail -n 1 out >line && mv line out
 out 'keeps 2 4 need 11 shared 10'
 # where sharing takes more room, that is said: the program's words are taken from a list
-mkdir program
+mkdir program program/lvm program/states program/waits
 cat >program/pdata_tools <<END
 #!/bin/sh
+[ \$# -gt 0 ] || exec $PROGRAM
 case "\$*" in
 *--dry-run*) [ ! -e '$tmp/looks' ] || exit "\$(cat '$tmp/looks')" && cat '$tmp/told.txt' ;;
 *thin_repair*) [ ! -e '$tmp/repairs' ] || exit "\$(cat '$tmp/repairs')" ;;
@@ -90,8 +91,8 @@ esac
 END
 chmod +x program/pdata_tools
 sed "s|^program=.*|program=$tmp/program/pdata_tools|" "$prefix/sbin/thin_repair" >program/thin_repair
-sed "s|^program=.*|program=$tmp/program/pdata_tools|" "$lvm/thin_repair" >program/lvm-thin_repair
-chmod +x program/*
+sed "s|^program=.*|program=$tmp/program/pdata_tools|" "$lvm/thin_repair" >program/lvm/thin_repair
+chmod +x program/*_tools program/*_repair program/lvm/*
 printf '%s\n' 'device 1 kept 5 of 5' 'keeps 1 5 need 11 shared 13' >told.txt
 echo 4 >repairs
 try 4 program/thin_repair -i $pool -o ten.img
@@ -159,8 +160,9 @@ repairs 1 program/thin_repair -i $pool
 notes_have "thin_repair: nothing would be kept: $refused"
 
 # LVM's command takes an older state with fewer devices with --force alone
-cat >program/states <<END
+cat >program/states/pdata_tools <<END
 #!/bin/sh
+[ \$# -gt 0 ] || exec $PROGRAM
 case "\$*" in
 *--dry-run*--transaction-id*) cat '$tmp/listed.txt' ;;
 *--dry-run*) cat '$tmp/told.txt' ;;
@@ -169,25 +171,24 @@ case "\$*" in
 *thin_repair*) echo "\$*" >'$tmp/written' ;;
 esac
 END
-chmod +x program/states
-sed "s|^program=.*|program=$tmp/program/states|" "$lvm/thin_repair" >program/lvm-states
-chmod +x program/lvm-states
+sed "s|^program=.*|program=$tmp/program/states/pdata_tools|" "$lvm/thin_repair" >program/states/thin_repair
+chmod +x program/states/*
 printf '%s\n' 'device 1 kept 5 of 5' 'device 2 lost 9' 'device 3 lost 2' 'keeps 1 5 need 9 shared 9' >told.txt
 printf '%s\n' 'roots 3 4 devices 2 mappings 14 transaction 5 time 2' 'keeps 2 14 need 9 shared 9' >listed.txt
-try 1 program/lvm-states -i $pool -o fresh.img
+try 1 program/states/thin_repair -i $pool -o fresh.img
 notes 'thin_repair: keeps 1 of 3 devices, 5 of 16 mappings' "$lost_something" 'device 2 lost 9' 'device 3 lost 2' \
     "thin_repair: devices of $pool would be lost: an older state has 2 devices and 14 mappings, and is taken with --force; $page"
 [ ! -e written ] || bad 'it is written'
-try 0 program/lvm-states --force --unshared -i $pool -o fresh.img
+try 0 program/states/thin_repair --force --unshared -i $pool -o fresh.img
 notes "thin_repair: by its superblock 5 mappings of $pool are left, and 14 in an older state, which is taken: see thin_repair(8)"
 echo "thin_repair -i $pool -o fresh.img --mapping-root 3 --details-root 4 $given" >wanted
 same written wanted
 rm written
 : >listed.txt
-try 1 program/lvm-states -i $pool -o fresh.img
+try 1 program/states/thin_repair -i $pool -o fresh.img
 notes_have "thin_repair: devices of $pool would be lost, and no older state has more: nothing is repaired without --force; $page"
 [ ! -e written ] || bad 'it is written'
-try 0 program/lvm-states --force -i $pool -o fresh.img
+try 0 program/states/thin_repair --force -i $pool -o fresh.img
 echo "thin_repair --shared -i $pool -o fresh.img" >wanted
 same written wanted
 try 1 "$lvm/cache_repair" --force -i cache.img -o fresh.img
@@ -214,7 +215,7 @@ notes "thin_repair: keeps 7 of ? devices, $kept of ? mappings" \
 # The look before it fails: the repair goes on, and it is said
 for code in 5 6 7 137; do
     echo $code >looks
-    for command in thin_repair lvm-thin_repair; do
+    for command in thin_repair lvm/thin_repair; do
         try 0 program/$command -i $pool -o fresh.img
         notes "thin_repair: what was lost isn't known, as the look before the repair ended with $code: compare thin_ls fresh.img with LVM's volumes"
     done
@@ -231,6 +232,25 @@ mkdir temporary
 repairs 0 env TMPDIR="$tmp/temporary" thin_repair -i $pool
 notes "$all"
 [ -z "$(ls temporary)" ] || bad 'a file is left in the temporary folder'
+repairs 1 env TMPDIR="$tmp/temporary" thin_repair -i damaged.img
+[ -z "$(ls temporary)" ] || bad 'a file is left in the temporary folder'
+# a stop while it is looked: nothing is written, nothing is left, and the line is told
+cat >program/waits/pdata_tools <<END
+#!/bin/sh
+: >'$tmp/there'
+exec sleep 20
+END
+for command in "$prefix/sbin/thin_repair" "$lvm/thin_repair"; do
+    sed "s|^program=.*|program=$tmp/program/waits/pdata_tools|" "$command" >program/waits/thin_repair
+    chmod +x program/waits/*
+    rm -f there
+    wanted=143
+    [ "$command" != "$lvm/thin_repair" ] || wanted=1
+    # shellcheck disable=SC2016 # the inner shell's
+    repairs $wanted env TMPDIR="$tmp/temporary" sh -c 'program/waits/thin_repair "$@" & while [ ! -e there ]; do sleep 0.1; done; kill "$!"; wait "$!"' sh -i $pool
+    notes_have 'thin_repair: stopped: fresh.img holds what it held, or all that was to be written'
+    [ -z "$(ls temporary)" ] || bad 'a file is left in the temporary folder'
+done
 # what can't be written isn't looked at
 try 5 thin_repair -i $pool -o missing.img
 notes 'pdata_tools: device fault' "thin_repair: missing.img isn't there"
