@@ -64,7 +64,7 @@ notes 'fault meta 0 checksum' 'faults 1' \
 try 1 "$lvm/thin_repair" -i leak.img -o missing.img
 notes_have "thin_repair: missing.img isn't there"
 try 1 "$lvm/thin_repair" -i leak.img -o small.img
-need=$(sed -n '1s/^pdata_tools: no room: need \([0-9]*\), blocks 2$/\1/p' notes)
+need=$(sed -n 's/^pdata_tools: no room: need \([0-9]*\), blocks 2$/\1/p' notes)
 notes_have "lvcreate -L $(((need + 255) / 256))M; $page"
 try 0 "$lvm/thin_dump" thin-pool.img
 out 'transaction="5"'

@@ -69,7 +69,8 @@ for packed in xz gzip; do
         $packed -c thin-pool.txt >packed.txt
         zeros fresh.img 1024
         try 3 thin_restore -i packed.txt -o fresh.img
-        notes 'pdata_tools: line 1: header' "thin_restore: packed.txt is compressed by $packed: unpack it first, as with $packed -dk"
+        notes_have 'pdata_tools: line 1: '
+        notes_have "thin_restore: packed.txt is compressed by $packed: unpack it first, as with $packed -dk"
         try 1 thin_repair -i packed.img -o fresh.img
         notes_have "thin_repair: packed.img is compressed by $packed"
     fi
