@@ -81,3 +81,51 @@ reset_now() {
     echo b >/proc/sysrq-trigger
     sleep 60
 }
+# Gives LVM these notes of the group instead of its own
+notes() { L lvm vgcfgrestore --force -f "$1" vg; }
+# The commands of pdata_tools(8) over the volume t1; LVM's other names are those of `lvm`, and diff ends with 1 where it finds something
+of_page() { page pdata_tools "$1" "s|vg/volume|vg/t1|; s/128M/4M/; s/^vgcfg/lvm &/; s/^diff.*/& || :/; ${2-}"; }
+# A pool with the transaction 3 and three volumes, and then with 5 and two more: the notes of both times are in /tmp/n3 and /tmp/n5, and the
+# older metadata in /tmp/m3
+make_pool() {
+    L vgcreate vg /dev/vda
+    L lvcreate -y --type thin-pool -L 256M --poolmetadatasize 4M -Zn -n pool vg
+    for volume in t1 t2 t3; do
+        L lvcreate -y -V 64M -T vg/pool -n $volume
+    done
+    wr /dev/vg/t1 0 20 0
+    L vgchange -an vg
+    L lvm vgcfgbackup -f /tmp/n3 vg
+    harm pool_tmeta
+    dd if=/dev/mapper/harm of=/tmp/m3 bs=1M 2>/dev/null
+    unharm
+    L vgchange -ay vg
+    for volume in t4 t5; do
+        L lvcreate -y -V 64M -T vg/pool -n $volume
+    done
+    wr /dev/vg/t4 0 20 20
+    L vgchange -an vg
+    L lvm vgcfgbackup -f /tmp/n5 vg
+}
+# Whether LVM refuses the pool, and says these transactions
+refused() {
+    L lvchange -ay vg/t1
+    isnt 'the pool is refused' [ "$rc" = 0 ]
+    is "it says $1" said "transaction_id is $1"
+    L vgchange -an vg
+}
+# Whether the last command went well, and t1 is as it was written
+right() {
+    is 'it is done' [ "$rc" = 0 ]
+    is 't1 reads what it read' same /dev/vg/t1 0 20 0
+}
+# A new volume has no data of an older one
+new_is_empty() {
+    L lvcreate -y -V 64M -T vg/pool -n "$1"
+    is 'a volume is made' [ "$rc" = 0 ]
+    is 'it is empty' [ "$(dd if="/dev/vg/$1" bs=1M count=20 2>/dev/null | tr -d '\000' | wc -c)" = 0 ]
+    L vgchange -an vg
+    L lvchange -ay "vg/$1"
+    is 'it is activated again' [ "$rc" = 0 ]
+    L vgchange -an vg
+}

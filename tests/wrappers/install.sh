@@ -30,12 +30,10 @@ is_gone
 printf '#!/bin/sh\nexec %s "$@"\n' "$PROGRAM" >program
 chmod +x program
 PROGRAM=$tmp/program
-mkdir copy
-for name in VERSION install commands completion lvm man; do
-    cp -R "$here/$name" copy
-done
+copy_parts copy VERSION install commands completion lvm man
 # a text that is missing, is empty, or is no script: nothing is installed
-for text in VERSION commands/common commands/running commands/words commands/full commands/repairing commands/tool completion/pdata_tools lvm/check lvm/thin_dump lvm/initramfs-hook man/thin_ls.8; do
+for text in VERSION commands/common commands/running commands/words commands/full commands/repairing commands/tool \
+    completion/pdata_tools lvm/check lvm/thin_dump lvm/initramfs-hook man/thin_ls.8 crates/pd_word_list/stdout; do
     for harm in missing empty; do
         mv "copy/$text" kept
         [ $harm = missing ] || : >"copy/$text"
@@ -78,20 +76,24 @@ for last in "$prefix//" /usr/local/there/ /; do
 done
 DESTDIR=''
 try 1 env PREFIX=relative "$here/install"
-# a program that isn't pdata_tools, and one that takes other words
+# a program that isn't pdata_tools, and one that doesn't take an option
 PROGRAM=/bin/true try 1 "$here/install"
 notes "install: /bin/true isn't pdata_tools $release: it doesn't run here, or takes other words"
 is_gone
-cat >another <<END
+grep -oE -e '--?[a-z][a-z-]*' "$table" | sort -u >options
+while read -r option; do
+    cat >another <<END
 #!/bin/sh
-case \$* in
-*--ignore-non-fatal-errors*) exit 2 ;;
+case " \$* " in
+*' $option '*) exit 2 ;;
 esac
 exec $tmp/program "\$@"
 END
-chmod +x another
-PROGRAM=$tmp/another try 1 "$here/install"
-is_gone
+    chmod +x another
+    PROGRAM=$tmp/another try 1 "$here/install"
+    notes "install: $tmp/another isn't pdata_tools $release: it doesn't run here, or takes other words"
+    is_gone
+done <options
 # what names the commands after they are gone, or were others
 mkdir -p lvm-system
 printf 'global {\n    thin_check_executable = "%s/libexec/pdata_tools/thin_check"\n}\n' "$prefix" >lvm-system/lvm.conf

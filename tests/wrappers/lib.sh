@@ -176,13 +176,24 @@ prepare() {
     chmod +x full/df
 }
 
+# Copies these parts of the repository into a new folder, and the table of words, which ./install and ./package read
+copy_parts() {
+    copied=$1
+    shift
+    mkdir -p "$copied/crates/pd_word_list"
+    cp "$table" "$copied/crates/pd_word_list"
+    for part do
+        cp -R "$here/$part" "$copied"
+    done
+}
+
 # Tries what a file has, in a folder that has these files alone, and adds its numbers. What it sets is gone afterwards
 try_file() {
     tmp=$work/$1
     cp -R "$work/prepared" "$tmp"
     rm -f "$work/numbers"
     (
-        cd "$tmp" || exit 1
+        cd "$tmp" && sh -n "$here/tests/wrappers/$1.sh" || exit 1
         # shellcheck disable=SC1090 # the files of this folder
         . "$here/tests/wrappers/$1.sh"
         printf '%s %s\n' "$tries" "$wrong" >"$work/numbers"

@@ -2,10 +2,8 @@
 # The package, of a copy that no repository has around it
 
 if command -v sha256sum >/dev/null && command -v gzip >/dev/null && tar --version 2>/dev/null | grep -q GNU; then
-    mkdir packed packing
-    for part in VERSION README.md install package commands completion docs lvm man; do
-        cp -R "$here/$part" packing
-    done
+    mkdir packed
+    copy_parts packing VERSION README.md install package commands completion docs lvm man
     # here the program may be a script that names no C library
     cat "$PROGRAM" >packing/pdata_tools
     echo '# GLIBC_2.34' >>packing/pdata_tools
@@ -36,6 +34,18 @@ if command -v sha256sum >/dev/null && command -v gzip >/dev/null && tar --versio
             bad 'a name that others may have'
         try 0 dpkg-deb -x "packed/pdata-tools_${release}_amd64.deb" extracted
         grep -qx 'program=/usr/lib/pdata_tools/bin/pdata_tools' extracted/usr/sbin/pdata_thin_check || bad 'another program'
+        what="the package's commands, and what is completed"
+        printf '%s\n' "$tools" | sed 's/^/pdata_/' | sort >wanted
+        ls extracted/usr/sbin >kept
+        same kept wanted
+        sed -n 's/^complete -F _pdata_tools //p' extracted/usr/share/bash-completion/completions/* >kept
+        same kept wanted
+        if command -v bash >/dev/null; then
+            # shellcheck disable=SC2016 # the inner shell's
+            try 0 bash -c '. "$0" && COMP_WORDS=("$@") && COMP_CWORD=1 && _pdata_tools && printf "%s\n" "${COMPREPLY[@]}"' \
+                extracted/usr/share/bash-completion/completions/pdata_thin_dump pdata_thin_dump -
+            out --shared -o --help --version
+        fi
     else
         skip 'the Debian package, as there is no dpkg-deb'
     fi

@@ -3,10 +3,8 @@
 # removal
 
 if command -v dpkg-deb >/dev/null && command -v sha256sum >/dev/null && tar --version 2>/dev/null | grep -q GNU; then
-    mkdir names names/source names/packed
-    for part in VERSION README.md install package commands completion docs lvm man; do
-        cp -R "$here/$part" names/source
-    done
+    mkdir names names/packed
+    copy_parts names/source VERSION README.md install package commands completion docs lvm man
     # here the program may be a script that names no C library
     cat "$PROGRAM" >names/source/pdata_tools
     echo '# GLIBC_2.34' >>names/source/pdata_tools

@@ -1,19 +1,23 @@
 # shellcheck shell=sh disable=SC2154,SC2034 # lib.sh sets what is used here, and reads what is set
 # Words: each list of them has those of the table, and the program and its commands take these and no others
 
-# The lists of words: the scripts, the completion and the pages have the words of the table
+# The lists of words: what is installed and the pages have the words of the table
 
 # These names, one a line, are those of the tools
 named() {
-    grep '^[a-z]*_' | grep -v pdata >names
-    printf '%s\n' "$tools" | diff - names >differs || bad "$(cat differs)"
+    sort >names
+    printf '%s\n' "$tools" | sort | diff - names >differs || bad "$(cat differs)"
 }
-for script in install package completion/pdata_tools; do
-    what="the tools of $script"
-    sed -n "/tools='/,/'\$/p" "$here/$script" | tr -s " '\n" '\n' | named
+for kind in sbin share/man/man8 share/bash-completion/completions; do
+    what="the files of $kind"
+    # shellcheck disable=SC2012 # names of letters
+    ls "$prefix/$kind" | sed 's/\.8$//' | grep -vx -e pdata_tools -e pdata_tools-lvm | named
 done
-what="the tools that are completed"
-sed -n '/^complete /,$p' "$here/completion/pdata_tools" | tr -s ' \\\n' '\n' | named
+if command -v bash >/dev/null; then
+    what='the tools that are completed'
+    # shellcheck disable=SC2016 # the inner shell's
+    bash -c '. "$0" && complete -p' "$prefix/share/bash-completion/completions/pdata_tools" | sed 's/.* //' | grep -vx pdata_tools | named
+fi
 
 # A synopsis word by word, with the table's words for values
 plain() {
@@ -43,14 +47,19 @@ for tool in $tools; do
     what="$tool --help"
     "$tool" --help | sed -e 's/^usage: //' -e '/^ *STAGE:/d' -e '/^ *see /d' -e '/^  -/,$d' | plain >got
     same wanted got
+    what="the lines of $tool --help"
+    grep "^$tool " "$table" | tr -s ' []' '\n' | grep '^-' | sort -u >wanted
+    "$tool" --help | sed -n 's/^  \(-[a-z-]*\) .*/\1/p' | sort -u | comm -23 wanted - >differs
+    [ ! -s differs ] || bad "nothing says what these do: $(cat differs)"
     what="the synopsis of $tool.8"
+    grep "^$tool " "$table" | plain >wanted
     synopsis_of "$tool" | plain >got
     same wanted got
 done
 
 # the words of options, with their values
 grep -oE -e '--?[a-z][a-z-]*( [A-Z][A-Z.]*)?' "$table" | sort -u >options
-sed -n '/^takes_value() {/,/^}/p' "$here/commands/tool" >takes_value.sh
+sed -n '/^takes_value() {/,/^}/p' "$prefix/sbin/thin_check" >takes_value.sh
 what='the options with a value'
 # shellcheck disable=SC1091
 . ./takes_value.sh
@@ -59,7 +68,6 @@ while read -r option value; do
     '') ! takes_value "$option" || bad "$option has no value" ;;
     *) takes_value "$option" || bad "$option has a value" ;;
     esac
-    tr -s ' ";' '\n' <"$here/install" | grep -qx -e "$option" || bad "./install doesn't try $option"
 done <options
 tr -s ' );|' '\n' <takes_value.sh | grep '^-' | sort >got
 sed -n 's/ .*//p' options | sort -u >wanted
