@@ -48,12 +48,14 @@ L lvs -a -o lv_name,lv_attr,metadata_percent vg
 dmesg | grep -i 'thin' | tail -n 12
 L vgchange -an vg
 L vgchange -ay vg
+is 'the check says that it is full, and passes' said 'vg-pool_tmeta is 100 % full'
 L dmsetup status vg-pool-tpool
-L dmsetup status vg-volume
+is 'the pool is read-only' said ' ro '
 is 'the volume reads what it read, after it ran full' same /dev/vg/volume 0 2 0
 L vgchange -an vg
 L lvconvert -y --repair vg/pool
 is 'the repair ends with 0' [ "$rc" = 0 ]
+is 'it says that it gives no room' said 'a repair makes nothing larger: now 9[0-9]* of 1024 are used. lvextend --poolmetadatasize'
 L lvextend --poolmetadatasize +8M vg/pool
 is 'it is extended' [ "$rc" = 0 ]
 L vgchange -ay vg
