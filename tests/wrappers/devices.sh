@@ -225,7 +225,7 @@ END
     sed -i 's|^\( *twin=\)/dev/mapper/.*|\1twin.img|' sbin-looking/thin_check
     cp set.img twin.img
     try 0 env PATH="$tmp/dmsetup:$PATH" sbin-looking/thin_check --clear-needs-check-flag held
-    checked set.img
+    out clean
     sed 's/pdata_tools-[0-9]*/pdata_tools-N/' notes >kept && mv kept notes
     notes 'dmsetup table -j 250' 'dmsetup create pdata_tools-N-tmeta ' '0 8192 linear 254:0 2048' \
         'thin_check: held is read-only, as LVM activates it: it is written by way of twin.img' \
