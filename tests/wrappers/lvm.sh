@@ -34,6 +34,9 @@ notes "thin_check: short.img has faults: 1; the first is \"fault data 10 short s
 try 1 "$lvm/thin_check" -q --clear-needs-check-flag damaged.img
 out
 notes "thin_check: damaged.img has faults: 1; the first is \"fault meta 183 checksum\"; $page"
+dd if=thin-pool.img of=cut.img bs=4096 count=256 2>/dev/null
+try 1 "$lvm/thin_check" -q cut.img
+notes_have 'thin_check: cut.img has 256 blocks of 4 KiB, and its superblock says 1024: 768 are missing'
 try 1 "$lvm/thin_check" -q missing.img
 notes 'pdata_tools: device fault' "thin_check: missing.img isn't there" "thin_check: $page"
 try 1 "$lvm/thin_check" -q "$here"
