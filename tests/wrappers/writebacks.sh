@@ -159,7 +159,7 @@ try 0 thin_shrink --shared -i pair.img -o ten.img --data data.img --nr-blocks 2
 out 'moved 1'
 same data.img moved.img
 try 0 thin_check ten.img
-out clean
+checked ten.img
 try 0 thin_dump --shared ten.img
 same out smaller-pair.txt
 # the real pool, with as many data blocks as it uses, on a made-up data device
@@ -168,7 +168,7 @@ zeros fresh.img 1024
 try 0 thin_shrink -i thin-pool.img -o fresh.img --data wide.img --nr-blocks 665
 out 'moved 39'
 try 0 thin_check fresh.img
-out clean
+checked fresh.img
 try 0 thin_ls thin-pool.img
 cp out devices.txt
 try 0 thin_ls fresh.img
