@@ -36,7 +36,7 @@ thin_restore -i /tmp/shared.txt -o /dev/mapper/harm
 is 'the metadata has shared leaves' thin_check /dev/mapper/harm
 dd if=/dev/vdc of=/dev/mapper/harm bs=4096 seek=60 count=1 oflag=direct conv=notrunc 2>/dev/null
 dd if=/dev/zero of=/tmp/plain.img bs=1M count=4 2>/dev/null
-thin_repair -i /dev/mapper/harm -o /tmp/plain.img 2>/tmp/said
+thin_repair --unshared -i /dev/mapper/harm -o /tmp/plain.img 2>/tmp/said
 is 'without sharing there is no room' grep -q 'no room: need 11[0-9][0-9], blocks 1024' /tmp/said
 unharm
 L vgchange -ay vg
