@@ -72,6 +72,13 @@ out 'fault meta 184 checksum' 'faults 1'
 notes 'pdata_tools: device fault' "thin_check: $first" "thin_check: $of_copy"
 failing 1 failing/thin_check -q bad.img
 out
+# a block that nothing uses
+zeroed 1023
+failing 0 failing/thin_check bad.img
+checked bad.img
+notes 'pdata_tools: device fault' "thin_check: bad.img: block 1023 can't be read, the first such block of 1024 (of 4 KiB, from 0 on)" \
+    "thin_check: what follows is of a copy, in which zeros stand for blocks that can't be read: 1"
+zeroed 184 300
 failing 5 failing/thin_check --clear-needs-check-flag bad.img
 out
 helps='what helps is a copy of it: dd if=bad.img of=COPY bs=4096 conv=noerror,sync; see pdata_tools(8)'
@@ -112,6 +119,18 @@ notes 'pdata_tools: device fault'
 zeroed 0
 failing 1 failing/thin_repair -i bad.img -o fresh.img
 notes_have 'fault meta 0 checksum'
+
+# a signal ends the program while it works on the copy
+zeroed 184 300
+mkdir second
+# shellcheck disable=SC2016 # the inner shell's
+sed 's|^exec .*|kill -s KILL $$|' failing/program >second/program
+sed "s|^program=.*|program=$tmp/second/program|" "$prefix/sbin/thin_repair" >second/thin_repair
+chmod +x second/*
+zeros fresh.img 1024
+failing 137 second/thin_repair -i bad.img -o fresh.img
+notes_have "thin_repair: $of_copy"
+notes_have 'thin_repair: stopped: block 0 of fresh.img is zeros, which a kernel takes for a new device.'
 
 # A limit of file sizes, and a program that a signal ends
 
