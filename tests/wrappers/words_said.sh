@@ -209,6 +209,9 @@ out 'block 100 device 3 virtual 100'
 try 1 thin_rmap --region 100..102 --region 0..3 damaged.img
 out
 notes 'fault meta 183 checksum' 'faults 1'
+# (a file stays as it is then)
+try 1 thin_rmap --region 100..102 --region 0..3 -o regions.txt damaged.img
+same regions.txt each.txt
 try 6 thin_rmap --region 100..102 --region 0..3 -o missing/regions.txt thin-pool.img
 notes_have 'thin_rmap: the folder missing/ isn'"'t there"
 try 2 thin_rmap --region 100..102 --region all thin-pool.img
