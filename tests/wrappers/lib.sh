@@ -236,6 +236,7 @@ if ! "$here/install" >"$work/installed"; then
     printf 'wrappers: nothing could be installed\n' >&2
     exit 1
 fi
-PATH=$prefix/sbin:$prefix/bin:$PATH
+# (pdata_tools is the program here, and not the command of that name)
+PATH=$prefix/bin:$prefix/sbin:$PATH
 mkdir "$work/prepared"
 (cd "$work/prepared" && prepare) || exit 1

@@ -193,6 +193,36 @@ else
     skip 'too little memory, as the shell has no such limit'
 fi
 
+# The command pdata_tools names the tools, and is the program else
+
+names_tools=$prefix/sbin/pdata_tools
+for word in -h --help; do
+    try 0 "$names_tools" $word
+    grep -x ' *[a-z]*_[a-z]*' out | tr -d ' ' >kept
+    printf '%s\n' "$tools" >wanted
+    same kept wanted
+    notes
+done
+try 0 "$names_tools" --version
+out "pdata_tools $release"
+try 0 "$names_tools" thin_check thin-pool.img
+out clean
+notes
+for words in '' '--help thin_check' '-h -h' 'thin_check --help'; do
+    # shellcheck disable=SC2086 # several words
+    try 2 "$names_tools" $words
+    out
+    notes 'pdata_tools: the words spell no request'
+done
+# shellcheck disable=SC2016 # the inner shell's
+for shell in sh bash 'busybox sh'; do
+    command -v "${shell%% *}" >/dev/null || continue
+    for closed in '<&-' '>&-' '2>&-' '<&- >&- 2>&-'; do
+        try 0 sh -c "$shell $names_tools thin_check thin-pool.img $closed"
+        try 1 sh -c "$shell $names_tools thin_dump -o dumped.txt damaged.img $closed"
+    done
+done
+
 # Several regions, each as if it were asked for alone
 
 for region in 100..102 0..3 640..650; do
