@@ -10,7 +10,7 @@ notes_have "$prefix/sbin/thin_check"
 [ ! -e "$prefix/bin" ] || bad 'something was installed'
 try 0 "$here/install" --replace
 try 0 "$here/install"
-for tool in $tools; do
+for tool in $tools $sizes; do
     [ -x "$prefix/sbin/$tool" ] || bad "no command $tool"
     [ -f "$prefix/share/man/man8/$tool.8" ] || bad "no page $tool"
     [ -f "$prefix/share/bash-completion/completions/$tool" ] || bad "no completion $tool"
@@ -33,7 +33,7 @@ PROGRAM=$tmp/program
 copy_parts copy VERSION install commands completion lvm man
 # a text that is missing, is empty, or is no script: nothing is installed
 for text in VERSION commands/common commands/running commands/words commands/full commands/repairing commands/tool \
-    completion/pdata_tools lvm/check lvm/thin_dump lvm/initramfs-hook man/thin_ls.8 crates/pd_word_list/stdout; do
+    commands/sizes completion/forms completion/pdata_tools lvm/check lvm/thin_dump lvm/initramfs-hook man/thin_ls.8 crates/pd_word_list/stdout; do
     for harm in missing empty; do
         mv "copy/$text" kept
         [ $harm = missing ] || : >"copy/$text"
@@ -148,7 +148,7 @@ for kind in first upgrade; do
     if [ $kind = upgrade ]; then
         mkdir older
         cp -R copy/* older
-        for text in commands/tool completion/pdata_tools lvm/check lvm/repair lvm/thin_dump lvm/initramfs-hook man/*.8; do
+        for text in commands/tool commands/sizes completion/pdata_tools lvm/check lvm/repair lvm/thin_dump lvm/initramfs-hook man/*.8; do
             echo '# of an older version' >>"older/$text"
         done
         try 0 older/install

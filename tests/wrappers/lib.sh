@@ -10,7 +10,8 @@
 #   full/df                                for the front of the path: a file system that has no room
 #
 # The installation that is tried is below $prefix, and its commands are on the path; those for LVM are in $lvm. $tools are the
-# names of the tools, and $table is the file that has their words.
+# names of the tools, and $table is the file that has their words. $forms has those that the commands alone take, and $sizes are the
+# commands that run no program.
 set -u
 LC_ALL=C
 export LC_ALL
@@ -226,6 +227,8 @@ try_file() {
 # what can be given to each tool, as pd_word_list prints it of the program's table
 table=$here/crates/pd_word_list/stdout
 tools=$(cut -d ' ' -f 1 "$table" | uniq)
+forms=$here/completion/forms
+sizes=$(grep -o '^[a-z]*_metadata_size' "$forms" | uniq)
 release=$(cat "$here/VERSION")
 page='see pdata_tools-lvm(8)'
 prefix=$work/prefix

@@ -35,7 +35,7 @@ if command -v sha256sum >/dev/null && command -v gzip >/dev/null && tar --versio
         try 0 dpkg-deb -x "packed/pdata-tools_${release}_amd64.deb" extracted
         grep -qx 'program=/usr/lib/pdata_tools/bin/pdata_tools' extracted/usr/sbin/pdata_thin_check || bad 'another program'
         what="the package's commands, and what is completed"
-        printf '%s\n' "$tools" | sed 's/^/pdata_/' | sort >wanted
+        printf '%s\n' "$tools" "$sizes" | sed 's/^/pdata_/' | sort >wanted
         ls extracted/usr/sbin >kept
         same kept wanted
         sed -n 's/^complete -F _pdata_tools //p' extracted/usr/share/bash-completion/completions/* >kept

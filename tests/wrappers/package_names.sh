@@ -23,13 +23,13 @@ if command -v dpkg-deb >/dev/null && command -v sha256sum >/dev/null && tar --ve
     try 0 dpkg-deb -e "$package" names/control
 
     # Each command and its page have the name of this package, and so has all that they name of it
-    names=$(printf '%s' "$tools" | tr '\n' '|')
+    names=$(printf '%s\n%s' "$tools" "$sizes" | tr '\n' '|')
     nameless() {
         sed -E -e "s/pdata_($names)//g" "$@" >kept
         ! grep -nE "(^|[^A-Za-z_])($names)" kept >differs || bad "a name without pdata_:
 $(cat differs)"
     }
-    for tool in $tools; do
+    for tool in $tools $sizes; do
         command=names/there/usr/sbin/pdata_$tool
         try 0 "$command" -h
         grep -q "^usage: pdata_$tool " out || bad 'no synopsis'

@@ -92,6 +92,17 @@ END
     out --help
     try 0 bash complete.bash "$complete" pdata_tools thin_ls --h
     out ''
+    # what the commands alone take
+    try 0 bash complete.bash "$complete" thin_metadata_size -
+    out --block-size --pool-size --max-thins --unit --numeric-only --help --version
+    try 0 bash complete.bash "$complete" pdata_cache_metadata_size --nr-blocks 5 --
+    out --max-hint-width --unit --numeric-only
+    try 0 bash complete.bash "$complete" cache_metadata_size --unit ''
+    out b s k K m M g G t T p P e E
+    try 0 bash complete.bash "$complete" pdata_tools thin_m
+    out ''
+    try 0 bash complete.bash "$complete" pdata_tools thin_metadata_size -
+    out ''
     for stage in super walk order whole; do
         try 0 bash complete.bash "$complete" thin_check --until $stage -
         out ''

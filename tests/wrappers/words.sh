@@ -3,10 +3,10 @@
 
 # The lists of words: what is installed and the pages have the words of the table
 
-# These names, one a line, are those of the tools
+# These names, one a line, are those of the commands
 named() {
     sort >names
-    printf '%s\n' "$tools" | sort | diff - names >differs || bad "$(cat differs)"
+    printf '%s\n' "$tools" "$sizes" | sort | diff - names >differs || bad "$(cat differs)"
 }
 for kind in sbin share/man/man8 share/bash-completion/completions; do
     what="the files of $kind"
@@ -42,23 +42,23 @@ synopsis_of() {
         }
         END { print "" }' tool="$1" "$here/man/$1.8"
 }
-for tool in $tools; do
-    grep "^$tool " "$table" | plain >wanted
+for tool in $tools $sizes; do
+    grep -h "^$tool " "$table" "$forms" | plain >wanted
     what="$tool --help"
     "$tool" --help | sed -e 's/^usage: //' -e '/^ *STAGE:/d' -e '/^ *see /d' -e '/^  -/,$d' | plain >got
     same wanted got
     what="the lines of $tool --help"
-    grep "^$tool " "$table" | tr -s ' []' '\n' | grep '^-' | sort -u >wanted
+    grep -h "^$tool " "$table" "$forms" | tr -s ' []' '\n' | grep '^-' | sort -u >wanted
     "$tool" --help | sed -n 's/^  \(-[a-z-]*\) .*/\1/p' | sort -u | comm -23 wanted - >differs
     [ ! -s differs ] || bad "nothing says what these do: $(cat differs)"
     what="the synopsis of $tool.8"
-    grep "^$tool " "$table" | plain >wanted
+    grep -h "^$tool " "$table" "$forms" | plain >wanted
     synopsis_of "$tool" | plain >got
     same wanted got
 done
 
 # the words of options, with their values
-grep -oE -e '--?[a-z][a-z-]*( [A-Z][A-Z.]*)?' "$table" | sort -u >options
+grep -ohE -e '--?[a-z][a-z-]*( [A-Z][A-Z.]*)?' "$table" "$forms" | sort -u >options
 sed -n '/^takes_value() {/,/^}/p' "$prefix/sbin/thin_check" >takes_value.sh
 what='the options with a value'
 # shellcheck disable=SC1091

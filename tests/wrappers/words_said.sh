@@ -49,7 +49,7 @@ nearest "[--shared] -i DEVICE -o DEVICE --mapping-root N --details-root N $searc
 notes_have 'thin_repair: --details-root N is wanted'
 
 # The help has a line for each option of the synopsis
-for tool in $tools; do
+for tool in $tools $sizes; do
     try 0 "$tool" --help
     sed '/^  -/,$d' out | tr -d '[]' | tr -s ' ' '\n' | grep '^-' | sort -u >wanted
     sed -n 's/^  \(-[^ ]*\) .*/\1/p' out | sort -u >got
