@@ -97,6 +97,10 @@ END
     out --block-size --pool-size --max-thins --unit --numeric-only --help --version
     try 0 bash complete.bash "$complete" pdata_cache_metadata_size --nr-blocks 5 --
     out --max-hint-width --unit --numeric-only
+    try 0 bash complete.bash "$complete" thin_ls --no-headers -
+    out --format -o
+    try 0 bash complete.bash "$complete" thin_ls --format DEV,EXCLUSIVE_
+    out DEV,EXCLUSIVE_BLOCKS DEV,EXCLUSIVE_SECTORS DEV,EXCLUSIVE_BYTES
     try 0 bash complete.bash "$complete" cache_metadata_size --unit ''
     out b s k K m M g G t T p P e E
     try 0 bash complete.bash "$complete" pdata_tools thin_m
