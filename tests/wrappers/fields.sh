@@ -47,7 +47,7 @@ mv out kept
 try 0 thin_ls --no-headers --format=DEV -o DEV listed.img
 out
 same DEV kept
-sed -n 's/^ *\([0-9]*\) .*/\1/p' fields.txt >wanted
+sed -n 's/^ *\([0-9][0-9]*\) .*/\1/p' fields.txt >wanted
 sed 's/ //g' kept | diff - wanted >differs || bad "$(cat differs)"
 # a list without fields is as it was, and so is its file, also where its name could be that of a field
 try 0 thin_ls listed.img
