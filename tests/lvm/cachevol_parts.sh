@@ -15,7 +15,7 @@ harm fast_cvol
 flag_cache /dev/mapper/harm
 L cache_check /dev/mapper/harm
 unharm
-L vgcfgbackup -f /tmp/vg.txt vg
+L lvm vgcfgbackup -f /tmp/vg.txt vg
 of() { sed -n "s/^[[:space:]]*$1 = //p" /tmp/vg.txt; }
 say "metadata from $(of metadata_start), $(of metadata_len) sectors; data from $(of data_start), $(of data_len) sectors"
 is 'the metadata is at the beginning' [ "$(of metadata_start)" = 0 ]

@@ -52,9 +52,9 @@ put_at() {
     printf "$(printf '\\%03o' $(($3 & 255)) $(($3 >> 8 & 255)) $(($3 >> 16 & 255)) $(($3 >> 24 & 255)))" |
         dd of="$1" bs=1 seek="$2" conv=notrunc 2>/dev/null
 }
-# Sets the flag "needs check" of a cache
-flag_cache() {
-    put_at "$1" 4 $(($(od -An -tu4 -j4 -N4 "$1") | 2))
+# Sets a flag of a superblock, and makes its checksum: DEVICE FLAG, and the number that is in each checksum of such superblocks
+set_flag() {
+    put_at "$1" 4 $(($(od -An -tu4 -j4 -N4 "$1") | $2))
     crc=4294967295
     for byte in $(od -An -v -tu1 -j4 -N4092 "$1"); do
         crc=$((crc ^ byte))
@@ -62,9 +62,12 @@ flag_cache() {
             crc=$((crc & 1 ? crc >> 1 ^ 2197175160 : crc >> 1))
         done
     done
-    put_at "$1" 0 $((crc ^ 9031977))
+    put_at "$1" 0 $((crc ^ $3))
     sync
 }
+# The flag "needs check" of a pool and of a cache
+flag_pool() { set_flag "$1" 1 160774; }
+flag_cache() { set_flag "$1" 2 9031977; }
 # How many blocks of the cached volume vg/main are dirty
 dirty() { dmsetup status vg-main | cut -d ' ' -f 14; }
 # Blocks of vg/main that are in the cache and newer there: 40 MiB from /dev/vdc's tenth MiB on

@@ -33,7 +33,7 @@ PROGRAM=$tmp/program
 copy_parts copy VERSION install commands completion lvm man
 # a text that is missing, is empty, or is no script: nothing is installed
 for text in VERSION commands/common commands/running commands/words commands/full commands/repairing commands/tool \
-    commands/listing commands/sizes completion/forms completion/pdata_tools lvm/check lvm/thin_dump lvm/initramfs-hook man/thin_ls.8 crates/pd_word_list/stdout; do
+    commands/listing commands/trimming commands/sizes completion/forms completion/pdata_tools lvm/check lvm/thin_dump lvm/initramfs-hook man/thin_ls.8 crates/pd_word_list/stdout; do
     for harm in missing empty; do
         mv "copy/$text" kept
         [ $harm = missing ] || : >"copy/$text"

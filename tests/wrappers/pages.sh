@@ -101,6 +101,10 @@ END
     out --format -o
     try 0 bash complete.bash "$complete" thin_ls --format DEV,EXCLUSIVE_
     out DEV,EXCLUSIVE_BLOCKS DEV,EXCLUSIVE_SECTORS DEV,EXCLUSIVE_BYTES
+    try 0 bash complete.bash "$complete" thin_trim --metadata-dev thin-pool.img -
+    out --dry-run --data-dev
+    try 0 bash complete.bash "$complete" pdata_tools thin_trim -
+    out --list -o
     try 0 bash complete.bash "$complete" cache_metadata_size --unit ''
     out b s k K m M g G t T p P e E
     try 0 bash complete.bash "$complete" pdata_tools thin_m

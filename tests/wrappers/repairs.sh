@@ -147,7 +147,7 @@ dirty=$(grep -c '^map [0-9]* [0-9]* 1 ' cache.txt)
 for version in '' 1 2; do
     zeros new.img 512
     try 0 cache_repair ${version:+--metadata-version $version} -i cache.img -o new.img
-    out "keeps $entries of $blocks blocks, $dirty dirty"
+    out "keeps $entries of $blocks blocks, $dirty dirty, 0 unknown"
     notes
     try 0 cache_check new.img
     out clean
@@ -158,13 +158,29 @@ for version in '' 1 2; do
     [ -z "$version" ] || same new.img again.img
 done
 
+# Puts a node at another place of an image, too: its place is at 8, and its checksum at 0
+copy_node() {
+    dd if="$1" of=node bs=4096 skip="$2" count=1 2>/dev/null
+    poke node 8 "$(printf '\\%03o' "$3")"
+    crc=4294967295
+    for byte in $(od -An -v -tu1 -j4 node); do
+        crc=$((crc ^ byte))
+        for _ in 1 2 3 4 5 6 7 8; do
+            crc=$((crc & 1 ? crc >> 1 ^ 2197175160 : crc >> 1))
+        done
+    done
+    crc=$((crc ^ 121107))
+    poke node 0 "$(printf '\\%03o' $((crc & 255)) $((crc >> 8 & 255)) $((crc >> 16 & 255)) $((crc >> 24 & 255)))"
+    dd if=node of="$1" bs=4096 seek="$3" conv=notrunc 2>/dev/null
+}
+
 # of one that wasn't shut down each entry counts as dirty
 sed '2s/^\(cache [^ ]* [0-9]* [0-9]*\) 1 /\1 0 /' cache.txt >open.txt
 zeros open.img 512
 try 0 cache_restore -i open.txt -o open.img
 zeros new.img 512
 try 0 cache_repair -i open.img -o new.img
-out "keeps $entries of $blocks blocks, $entries dirty"
+out "keeps $entries of $blocks blocks, $entries dirty, 0 unknown"
 try 0 cache_dump new.img
 same out open.txt
 {
@@ -180,9 +196,19 @@ for version in 1 2; do
     poke harmed.img 8292 '\377\377'
     try 1 cache_check harmed.img
     out 'fault meta 2 checksum' 'faults 1'
+    kept='keeps 509 of 600 blocks, 254 dirty, 91 unknown'
+    try 0 cache_repair --dry-run -i harmed.img
+    out "$kept"
     zeros new.img 16
+    cp new.img before.img
+    try 1 "$lvm/cache_repair" -i harmed.img -o new.img
+    out
+    notes 'cache_repair: the mapping of 91 of 600 cache blocks of harmed.img is lost, and with it whether they are dirty' \
+        'cache_repair: of the 509 that are left 254 are dirty' \
+        "cache_repair: no older mappings of more blocks are there: by hand, cache_repair keeps what is left, and files are compared; $page"
+    same new.img before.img
     try 0 cache_repair -i harmed.img -o new.img
-    out 'keeps 509 of 600 blocks, 254 dirty'
+    out "$kept"
     try 0 cache_check new.img
     try 0 cache_dump new.img
     # the entries of cache blocks 509 to 599 are gone
@@ -190,6 +216,23 @@ for version in 1 2; do
     same out wanted
     try 4 cache_repair -i halves.img -o small.img
     notes_have 'pdata_tools: no room: need '
+    # the root of the mapping array stands behind its blocks, and an older one that is whole in the last block
+    cp halves.img harmed.img
+    copy_node harmed.img 3 15
+    poke harmed.img 12388 '\377\377'
+    try 0 cache_repair --dry-run -i harmed.img
+    out 'keeps 0 of 600 blocks, 0 dirty, 600 unknown' 'root 15 words 600 entries 600'
+    try 1 "$lvm/cache_repair" -i harmed.img -o new.img
+    notes 'cache_repair: the mapping of 600 of 600 cache blocks of harmed.img is lost, and with it whether they are dirty' \
+        'cache_repair: of the 0 that are left 0 are dirty' \
+        "cache_repair: older mappings of more blocks are there: by hand, cache_repair --dry-run lists them, --mapping-root takes one, and files are compared; $page"
+    try 0 cache_repair --dry-run --mapping-root 15 -i harmed.img
+    out 'keeps 600 of 600 blocks, 300 dirty, 0 unknown'
+    zeros new.img 16
+    try 0 cache_repair --mapping-root 15 -i harmed.img -o new.img
+    out 'keeps 600 of 600 blocks, 300 dirty, 0 unknown'
+    try 0 cache_dump new.img
+    same out halves.txt
 done
 poke harmed.img 200 '\377\377'
 cp new.img before.img
@@ -201,7 +244,7 @@ notes 'fault meta 0 checksum' 'faults 1' \
     "cache_repair: the superblock of harmed.img has faults, so nothing says what the cache held; see pdata_tools-lvm(8)"
 zeros new.img 512
 try 0 "$lvm/cache_repair" -i cache.img -o new.img
-out "keeps $entries of $blocks blocks, $dirty dirty"
+out "keeps $entries of $blocks blocks, $dirty dirty, 0 unknown"
 try 0 cache_dump new.img
 same out cache.txt
 try 2 cache_repair --metadata-version 3 -i cache.img -o new.img

@@ -11,7 +11,8 @@ stopping() {
     sed "s|^program=.*|program=$tmp/stops/program-$place|" "$command" >"stops/$tool"
     case $place in
     before | after)
-        pause=': >stops/there; sleep 5 >stops/null 2>\&1 4>\&- \& wait $!'
+        # (what waits makes the file: by then no signal of a terminal ends it)
+        pause='{ : >stops/there; exec sleep 5; } >stops/null 2>\&1 4>\&- \& wait $!'
         [ "$place" = before ] && line="$pause; start_all \"\$@\"" || line="start_all \"\$@\"; $pause"
         sed "s|^start_all \"\$@\"\$|$line|" "stops/$tool" >stops/kept
         mv stops/kept "stops/$tool"

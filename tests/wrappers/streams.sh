@@ -223,6 +223,7 @@ pool.img thin_check thin_repair --dry-run -i pool.img
 new.img thin_check thin_repair -i harmed.img -o new.img --transaction-id 0 --data-block-size 8 --nr-data-blocks 4
 - - thin_repair --dry-run -i harmed.img --transaction-id 0 --data-block-size 8 --nr-data-blocks 4
 new.img cache_check cache_repair -i dirty.img -o new.img
+dirty.img cache_check cache_repair --dry-run -i dirty.img
 new.img thin_check thin_rehearse --number 1 -o new.img
 dirty.img cache_check cache_writeback --metadata-device dirty.img --fast-device fast.img --origin-device origin.img
 - - cache_writeback --metadata-device dirty.img --fast-device no.img --origin-device origin.img

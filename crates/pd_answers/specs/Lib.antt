@@ -8,6 +8,7 @@ pub mod Writebacks
 pub mod Rehearsals
 pub mod Flag
 pub mod KeptLines
+pub mod KeptCache
 pub mod Promises
 pub mod QueryLines
 pub mod Requests

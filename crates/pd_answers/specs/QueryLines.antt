@@ -5,7 +5,9 @@ use Rattle.std.specs.List.{flat_map, range_with_len, take_while}
 use Rattle.pd_kinds.specs.declared.kind.Kind.{Kind}
 use Rattle.pd_kinds.specs.declared.kind.Kind.TheVariants.{Thin, Cache, Era}
 use Rattle.pd_kinds.specs.declared.kind.Stage.{Stage}
-use Rattle.pd_kinds.specs.declared.kind.Stage.TheVariants.{Super, Whole}
+use Rattle.pd_kinds.specs.declared.kind.Stage.TheVariants.{Super, Whole, Counts}
+use Rattle.pd_kinds.specs.Graph.{Graph, block_at, data_count}
+use Rattle.pd_kinds.specs.ThinFormat.{thin_graph}
 use Rattle.pd_kinds.specs.Meaning.{Mapping, ThinDevice, ThinPool, EraMeaning, thin_meaning, cache_meaning, era_meaning}
 use Rattle.pd_grammar.specs.ThinText.{text_of_pool}
 use Rattle.pd_grammar.specs.CacheText.{text_of_cache}
@@ -13,8 +15,9 @@ use Rattle.pd_grammar.specs.EraText.{text_of_era}
 use Rattle.pd_laid.specs.PoolText.{text_of_shape}
 use Rattle.pd_laid.specs.Shape.{image_shape}
 use Rattle.pd_answers.specs.declared.request.Asked.{Asked}
-use Rattle.pd_answers.specs.declared.request.Asked.TheVariants.{Text, SharedText, ReverseMap, DeviceList, Since, Kept}
+use Rattle.pd_answers.specs.declared.request.Asked.TheVariants.{Text, SharedText, ReverseMap, DeviceList, Since, Kept, KeptCache, Unused}
 use Rattle.pd_answers.specs.KeptLines.{kept_text}
+use Rattle.pd_answers.specs.KeptCache.{kept_cache_text}
 
 -- the reverse map: the line of a mapping to a data block
 abbrev pub mapping_line : ℕ → ThinDevice → Mapping → List ℕ
@@ -73,6 +76,26 @@ run_line era eras block =
 unfoldable pub since_lines : ℕ → EraMeaning → List ℕ
 since_lines era meaning = flat_map (run_line era meaning.eras) (filter (begins_run era meaning.eras) (range_with_len 0 (length meaning.eras)))
 
+-- whether no mapping leads to a data block, of a device of the pool or of the held root's
+abbrev pub is_unused : Graph → List (List ℕ) → ℕ → Bool
+is_unused graph image block = data_count graph image block == 0
+
+-- whether a longest run of such blocks begins with this block
+abbrev pub begins_unused : Graph → List (List ℕ) → ℕ → Bool
+begins_unused graph image block = is_unused graph image block && ((block == 0) || not (is_unused graph image (block - 1)))
+
+-- the line of the run that begins with a block
+abbrev pub unused_line : Graph → List (List ℕ) → ℕ → List ℕ
+unused_line graph image block =
+    codes "unused " ++ (decimal block ++ (codes " "
+    ++ (decimal (length (take_while (is_unused graph image) (range_with_len block (graph.data_blocks - block)))) ++ (10 ∷ []))))
+
+-- the longest runs of data blocks to which no mapping leads, ascending
+unfoldable pub unused_lines : List (List ℕ) → List ℕ
+unused_lines image =
+    let graph = thin_graph (block_at image 0) in
+    flat_map (unused_line graph image) (filter (begins_unused graph image) (range_with_len 0 graph.data_blocks))
+
 -- the text of an image, which is that of its meaning
 abbrev pub image_text : Kind → List (List ℕ) → List ℕ
 image_text Thin image = text_of_pool (thin_meaning image)
@@ -87,8 +110,11 @@ asked_kind (ReverseMap first end) = Thin
 asked_kind DeviceList = Thin
 asked_kind (Since era) = Era
 asked_kind Kept = Thin
+asked_kind (KeptCache named) = Cache
+asked_kind Unused = Thin
 
--- the stage up to which it must be without faults: what is kept is asked of a damaged image
+-- the stage up to which it must be without faults: what is kept is asked of a damaged image, and what is unused of one whose counts are
+-- right
 abbrev pub asked_stage : Asked → Stage
 asked_stage (Text kind) = Whole
 asked_stage SharedText = Whole
@@ -96,6 +122,8 @@ asked_stage (ReverseMap first end) = Whole
 asked_stage DeviceList = Whole
 asked_stage (Since era) = Whole
 asked_stage Kept = Super
+asked_stage (KeptCache named) = Super
+asked_stage Unused = Counts
 
 -- what answers, where the image has no fault up to that stage
 abbrev pub asked_text : Asked → List (List ℕ) → List ℕ
@@ -105,3 +133,5 @@ asked_text (ReverseMap first end) image = rmap_lines first end (thin_meaning ima
 asked_text DeviceList image = device_list_lines (thin_meaning image)
 asked_text (Since era) image = since_lines era (era_meaning image)
 asked_text Kept image = kept_text image
+asked_text (KeptCache named) image = kept_cache_text named image
+asked_text Unused image = unused_lines image

@@ -1,7 +1,7 @@
 -- Trusted base.
 -- The terms of a repair of a pool, without the leaves that its devices share, or with them.
 -- The terms of a repair of a cache.
-use Rattle.std.specs.Prelude.{◌≡◌, ℕ, Bool, true, false, not, ◌==◌, if◌then◌else◌, List, [], ◌∷◌, IfSome, ◌≢◌, ◌+◌, ◌≤◌, ◌++◌, length, count_by, Option, codes, decimal}
+use Rattle.std.specs.Prelude.{◌≡◌, ℕ, Bool, true, false, not, ◌==◌, if◌then◌else◌, List, [], ◌∷◌, IfSome, ◌≢◌, ◌+◌, ◌≤◌, length, Option}
 use Rattle.std.specs.Option.{unwrap_or}
 use Rattle.pd_kinds.specs.declared.rule.Fault.{Fault}
 use Rattle.pd_kinds.specs.declared.kind.Kind.TheVariants.{Thin, Cache}
@@ -16,10 +16,12 @@ use Rattle.pd_kinds.specs.Graph.{block_at}
 use Rattle.pd_grammar.specs.Lines.{reported_lines}
 use Rattle.pd_laid.specs.Salvage.{salvage, saved_shape}
 use Rattle.pd_laid.specs.Shape.{ThinShape}
-use Rattle.pd_laid.specs.SavedCache.{saved_cache}
+use Rattle.pd_laid.specs.SavedCache.{saved_cache_from}
+use Rattle.pd_laid.specs.CacheRoots.{unknown_words}
+use Rattle.pd_answers.specs.declared.request.CacheRoots.{CacheRoots}
+use Rattle.pd_answers.specs.KeptCache.{with_roots, keeps_line}
 use Rattle.pd_answers.specs.Terms.{Answer, Objects, reading, writing, any_reads, Terms, unnamed}
 use Rattle.pd_answers.specs.Outputs.{Lays, Making, making_answer, pool_making, shape_making, IsRoom, LeavesMadeLast, cache_making, LeavesMadeFirst}
-use Rattle.pd_answers.specs.Writebacks.{is_hot}
 
 -- what a repair finds: the report of the input's superblock, what can be saved, and how many blocks there are for it
 pub record Salvaged (S : Type 0) : Type 0 where
@@ -81,23 +83,17 @@ repair_by broken statuses shared saved_of from to = record {
 abbrev pub repair : Bool → List ℕ → List ℕ → Terms
 repair shared from to = repair_by (faults Thin Super) (0 ∷ 1 ∷ 4 ∷ 5 ∷ 7 ∷ []) shared (saved_of shared) from to
 
--- the line of what is kept of a cache: how many entries, of how many cache blocks, and how many of them a kernel takes for dirty:
--- where the cache wasn't shut down, that is each of them
-abbrev pub kept_line : ℕ → ℕ → ℕ → List ℕ
-kept_line entries blocks dirty =
-    codes "keeps " ++ (decimal entries ++ (codes " of " ++ (decimal blocks ++ (codes " blocks, " ++ (decimal dirty ++ (codes " dirty" ++ (10 ∷ [])))))))
-
-abbrev pub keeps_line : CacheMeaning → List ℕ
-keeps_line m = kept_line (length m.entries) m.blocks (count_by (is_hot m) m.entries)
-
--- what is saved of a cache, and the version of the metadata in which it is written
+-- what is saved of a cache, the version of the metadata in which it is written, and of how many cache blocks the mapping word is lost
 pub record SavedIn : Type 0 where
   pub version : ℕ
   pub cache : CacheMeaning
+  pub unknown : ℕ
 
--- of an image: in the version that is asked, and else in the image's own
-abbrev pub saved_in : Option ℕ → List (List ℕ) → SavedIn
-saved_in version image = record { version = unwrap_or version (cache_fields (block_at image 0)).version; cache = saved_cache image }
+-- of an image, with these roots: in the version that is asked, and else in the image's own
+abbrev pub saved_in : Option ℕ → CacheRoots → List (List ℕ) → SavedIn
+saved_in version named image =
+    let fields = with_roots named (cache_fields (block_at image 0)) in
+    record { version = unwrap_or version fields.version; cache = saved_cache_from fields image; unknown = unknown_words fields image }
 
 abbrev pub making_in : SavedIn → Making
 making_in saved = cache_making saved.version saved.cache
@@ -105,7 +101,7 @@ making_in saved = cache_making saved.version saved.cache
 -- a repair of a cache puts the line of what is kept after its work; else the report of a superblock that has faults, or what was
 -- needed, to `notes`
 abbrev pub kept_answer : Salvaged SavedIn → Answer
-kept_answer found = saved_answer making_in (λ (saved : SavedIn). keeps_line saved.cache) found
+kept_answer found = saved_answer making_in (λ (saved : SavedIn). keeps_line saved.cache saved.unknown) found
 
 -- what it leaves of its output
 pub record LeavesKept (found : Salvaged SavedIn) (before after : Objects) (status : ℕ) : Type 0 where
@@ -114,11 +110,11 @@ pub record LeavesKept (found : Salvaged SavedIn) (before after : Objects) (statu
   pub unread : (kept_answer found).status ≡ 4 → after.input.reads ≤ before.input.reads + 1
 
 -- it reads one image and writes another; memory isn't wanting where the superblock is told and has a fault
-abbrev pub repair_cache : Option ℕ → List ℕ → List ℕ → Terms
-repair_cache version from to = record {
+abbrev pub repair_cache : Option ℕ → CacheRoots → List ℕ → List ℕ → Terms
+repair_cache version named from to = record {
   uses = record unnamed { out = reading []; input = reading from; output = writing to };
   Finding = Salvaged SavedIn;
-  finds = FindsSaved (faults Cache Super) (saved_in version);
+  finds = FindsSaved (faults Cache Super) (saved_in version named);
   answer = kept_answer;
   statuses = 0 ∷ 1 ∷ 4 ∷ 5 ∷ 7 ∷ [];
   memory = λ before. IfSome before.input.held (λ image. faults Cache Super image ≡ []);

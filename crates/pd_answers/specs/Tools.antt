@@ -5,7 +5,7 @@ use Rattle.pd_kinds.specs.declared.kind.Kind.TheVariants.{Thin, Cache, Era}
 use Rattle.pd_answers.specs.declared.tool.Need.{Need}
 use Rattle.pd_answers.specs.declared.tool.Need.TheVariants.{Flag, Mark, Wanted, Optional}
 use Rattle.pd_answers.specs.declared.tool.Tool.{Tool}
-use Rattle.pd_answers.specs.declared.tool.Tool.TheVariants.{Check, Dump, Restore, Repair, Search, NamedRepair, DryRepair, DrySearch, DryNamed, RepairCache, ReverseMap, DeviceList, Since, Generate, Rehearse, Writeback, Shrink}
+use Rattle.pd_answers.specs.declared.tool.Tool.TheVariants.{Check, Dump, Restore, Repair, Search, NamedRepair, DryRepair, DrySearch, DryNamed, RepairCache, DryRepairCache, ReverseMap, DeviceList, Unused, Since, Generate, Rehearse, Writeback, Shrink}
 use Rattle.pd_answers.specs.declared.tool.ToolWords.{ToolWords as ToolWordsOf}
 use Rattle.pd_answers.specs.declared.tool.Value.{Value}
 use Rattle.pd_answers.specs.declared.tool.Value.TheVariants.{File, Device, Stage, Version, Region, UpTo, Generated}
@@ -86,6 +86,23 @@ mapping_root_word = named (codes "--mapping-root") (Wanted (UpTo (2 ^ 64 - 1)))
 abbrev pub details_root_word : Word
 details_root_word = named (codes "--details-root") (Wanted (UpTo (2 ^ 64 - 1)))
 
+-- the roots of a cache's arrays, and all that can be said of its metadata
+abbrev pub map_root_word : Word
+map_root_word = named (codes "--mapping-root") (Optional (UpTo (2 ^ 64 - 1)))
+
+abbrev pub hint_root_word : Word
+hint_root_word = named (codes "--hint-root") (Optional (UpTo (2 ^ 64 - 1)))
+
+abbrev pub dirty_root_word : Word
+dirty_root_word = named (codes "--dirty-root") (Optional (UpTo (2 ^ 64 - 1)))
+
+abbrev pub cache_words : List Word
+cache_words = version_word ∷ map_root_word ∷ hint_root_word ∷ dirty_root_word ∷ input_word ∷ []
+
+-- that the blocks to which no mapping leads are listed
+abbrev pub list_word : Word
+list_word = named (codes "--list") Mark
+
 -- the devices of a cache
 abbrev pub metadata_word : Word
 metadata_word = named (codes "--metadata-device") (Wanted Device)
@@ -125,9 +142,11 @@ tools =
     ∷ record { name = codes "thin_repair"; tool = DryRepair; words = dry_run_word ∷ shared_word ∷ input_word ∷ [] }
     ∷ record { name = codes "thin_repair"; tool = DrySearch; words = dry_run_word ∷ shared_word ∷ input_word ∷ superblock_words }
     ∷ record { name = codes "thin_repair"; tool = DryNamed; words = dry_run_word ∷ shared_word ∷ input_word ∷ mapping_root_word ∷ details_root_word ∷ superblock_words }
-    ∷ record { name = codes "cache_repair"; tool = RepairCache; words = version_word ∷ input_word ∷ output_word ∷ [] }
+    ∷ record { name = codes "cache_repair"; tool = RepairCache; words = output_word ∷ cache_words }
+    ∷ record { name = codes "cache_repair"; tool = DryRepairCache; words = dry_run_word ∷ cache_words }
     ∷ record { name = codes "thin_rmap"; tool = ReverseMap; words = region_word ∷ file_word ∷ image_word ∷ [] }
     ∷ record { name = codes "thin_ls"; tool = DeviceList; words = file_word ∷ image_word ∷ [] }
+    ∷ record { name = codes "thin_trim"; tool = Unused; words = list_word ∷ file_word ∷ image_word ∷ [] }
     ∷ record { name = codes "era_invalidate"; tool = Since; words = since_word ∷ file_word ∷ image_word ∷ [] }
     ∷ record { name = codes "thin_generate"; tool = Generate; words = number_word ∷ file_word ∷ [] }
     ∷ record { name = codes "thin_rehearse"; tool = Rehearse; words = number_word ∷ output_word ∷ [] }

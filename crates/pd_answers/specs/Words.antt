@@ -15,12 +15,13 @@ use Rattle.pd_kinds.specs.declared.kind.Stage.TheVariants.{Super, Walk, Order, W
 use Rattle.pd_kinds.specs.declared.kind.Flagged.TheVariants as flagged
 use Rattle.pd_answers.specs.declared.request.GivenSuper.{GivenSuper}
 use Rattle.pd_answers.specs.declared.request.NamedRoots.{NamedRoots}
+use Rattle.pd_answers.specs.declared.request.CacheRoots.{CacheRoots}
 use Rattle.pd_answers.specs.declared.request.Request.TheVariants.{Check, PassingCheck, CheckAndClear, Query, Restore, Repair, Search, RepairNamed, DrySearch, RepairCache, Generate, Rehearse, Writeback, Shrink}
 use Rattle.pd_answers.specs.declared.tool.Need.{Need}
 use Rattle.pd_answers.specs.declared.tool.Need.TheVariants.{Flag, Mark, Wanted, Optional}
 use Rattle.pd_answers.specs.declared.tool.Tool.{Tool}
 use Rattle.pd_answers.specs.declared.tool.Value.{Value}
-use Rattle.pd_answers.specs.Tools.{ToolWords, Word, tools, image_word, until_word, passing_word, clear_word, file_word, shared_word, region_word, since_word, text_word, input_word, output_word, dry_run_word, version_word, number_word, transaction_word, block_size_word, data_blocks_word, mapping_root_word, details_root_word, metadata_word, fast_word, origin_word, data_word, blocks_word}
+use Rattle.pd_answers.specs.Tools.{ToolWords, Word, tools, image_word, until_word, passing_word, clear_word, file_word, shared_word, region_word, since_word, text_word, input_word, output_word, dry_run_word, version_word, number_word, transaction_word, block_size_word, data_blocks_word, mapping_root_word, details_root_word, map_root_word, hint_root_word, dirty_root_word, list_word, metadata_word, fast_word, origin_word, data_word, blocks_word}
 use Rattle.pd_answers.specs.Requests.{Request}
 use Rattle.pd_answers.specs.declared.request.Asked.TheVariants as ask
 use Rattle.pd_answers.specs.declared.tool.Tool.TheVariants as tool
@@ -263,6 +264,13 @@ named_roots items = do
   details ← told details_root_word items
   Some (record { top = top; details = details })
 
+unfoldable pub cache_roots : List Item → Option CacheRoots
+cache_roots items = do
+  mappings ← told map_root_word items
+  hints ← told hint_root_word items
+  dirty ← told dirty_root_word items
+  Some (record { mappings = mappings; hints = hints; dirty = dirty })
+
 -- what the items ask of a tool
 unfoldable pub request_of : Tool → List Item → Option Request
 request_of (tool.Check kind) items = do
@@ -319,9 +327,16 @@ request_of tool.DryNamed items = do
   Some (DrySearch input given (Some named))
 request_of tool.RepairCache items = do
   version ← told version_word items
+  named ← cache_roots items
   input ← told input_word items
   output ← told output_word items
-  Some (RepairCache version input output)
+  Some (RepairCache version named input output)
+request_of tool.DryRepairCache items = do
+  dry_run ← told dry_run_word items
+  version ← told version_word items
+  named ← cache_roots items
+  input ← told input_word items
+  Some (Query (ask.KeptCache named) None input)
 request_of tool.ReverseMap items = do
   region ← told region_word items
   file ← told file_word items
@@ -331,6 +346,11 @@ request_of tool.DeviceList items = do
   file ← told file_word items
   image ← told image_word items
   Some (Query ask.DeviceList file image)
+request_of tool.Unused items = do
+  list ← told list_word items
+  file ← told file_word items
+  image ← told image_word items
+  Some (Query ask.Unused file image)
 request_of tool.Since items = do
   era ← told since_word items
   file ← told file_word items

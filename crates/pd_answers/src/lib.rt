@@ -5,5 +5,5 @@
 mod request;
 mod tool;
 
-pub use request::{Asked, GivenSuper, NamedRoots, Request};
+pub use request::{Asked, CacheRoots, GivenSuper, NamedRoots, Request};
 pub use tool::{Need, Tool, ToolWords, Value, Word};

@@ -2,7 +2,7 @@
 
 ghost use Rattle.std.specs.Prelude.{◌≡◌};
 
-use pd_kinds::{Flagged, Kind, Passing, Stage};
+use pd_kinds::{CacheSuper, Flagged, Kind, Passing, Stage};
 
 /// What is given of a superblock that is lost, or isn't to be used.
 #[derive(Clone, Copy, Debug, PartialEq, Eq)]
@@ -24,6 +24,34 @@ pub struct NamedRoots {
     pub details: u64,
 }
 
+/// The roots of a damaged cache's arrays that are named, as block numbers of the metadata device. What isn't named is as the
+/// superblock has it.
+#[derive(Clone, Copy, Debug, PartialEq, Eq)]
+pub struct CacheRoots {
+    /// The root of the mapping array.
+    pub mappings: Option<u64>,
+    /// The root of the hint array.
+    pub hints: Option<u64>,
+    /// The root of the dirty bits, which version 2 of the metadata has.
+    pub dirty: Option<u64>,
+}
+
+impl CacheRoots {
+    ghost use Rattle.pd_answers.specs.KeptCache.{with_roots};
+
+    /// The superblock with these roots in place of its own.
+    pub fn over(self, s: &CacheSuper) -> CacheSuper
+        ensures { result ≡ with_roots self s.now }
+    {
+        CacheSuper {
+            mapping_root: self.mappings.unwrap_or(s.mapping_root),
+            hint_root: self.hints.unwrap_or(s.hint_root),
+            dirty_root: self.dirty.unwrap_or(s.dirty_root),
+            ..*s
+        }
+    }
+}
+
 /// What is asked of an image.
 #[derive(Clone, Copy)]
 pub enum Asked {
@@ -39,6 +67,10 @@ pub enum Asked {
     Since { era: u32 },
     /// What a repair of a pool would keep.
     Kept,
+    /// What a repair of a cache would keep, with these roots.
+    KeptCache(CacheRoots),
+    /// The data blocks of a pool to which no mapping leads.
+    Unused,
 }
 
 impl Asked {
@@ -50,9 +82,12 @@ impl Asked {
     {
         match self {
             Asked::Text(kind) => kind,
-            Asked::SharedText | Asked::ReverseMap { .. } | Asked::DeviceList | Asked::Kept => {
-                Kind::Thin
-            }
+            Asked::SharedText
+            | Asked::ReverseMap { .. }
+            | Asked::DeviceList
+            | Asked::Kept
+            | Asked::Unused => Kind::Thin,
+            Asked::KeptCache(_) => Kind::Cache,
             Asked::Since { .. } => Kind::Era,
         }
     }
@@ -62,7 +97,8 @@ impl Asked {
         ensures { result ≡ asked_stage self }
     {
         match self {
-            Asked::Kept => Stage::Super,
+            Asked::Kept | Asked::KeptCache(_) => Stage::Super,
+            Asked::Unused => Stage::Counts,
             Asked::Text(_)
             | Asked::SharedText
             | Asked::ReverseMap { .. }
@@ -135,9 +171,11 @@ pub enum Request<W> {
         given: GivenSuper,
         named: Option<NamedRoots>,
     },
-    /// An image of what can be saved of a cache, with this version of the metadata, or else its own.
+    /// An image of what can be saved of a cache, from its own roots and those that are named in their place, with this version
+    /// of the metadata, or else its own.
     RepairCache {
         version: Option<u32>,
+        named: CacheRoots,
         input: W,
         output: W,
     },

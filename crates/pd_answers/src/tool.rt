@@ -25,10 +25,14 @@ pub enum Tool {
     DryNamed,
     /// cache_repair
     RepairCache,
+    /// cache_repair --dry-run
+    DryRepairCache,
     /// thin_rmap
     ReverseMap,
     /// thin_ls
     DeviceList,
+    /// thin_trim --list
+    Unused,
     /// era_invalidate
     Since,
     /// thin_generate

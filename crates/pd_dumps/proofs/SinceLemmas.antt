@@ -1,8 +1,8 @@
 -- The lines of what was written since an era, over the superblock and the eras that are given.
-use Rattle.std.proofs.Common.{◌≡◌, ℕ, List, ap, ◌∙◌, inl, inr, zero, suc, ◌+◌, ◌-◌, ◌<◌, ◌==◌, ◌&&◌, ◌||◌, not, Bool, true, false, nat_eq, nat_lt, eqb, if◌then◌else◌, [], ◌∷◌, ◌++◌, length, get_or, drop, map, refl, sym, arith, drop-cons}
+use Rattle.std.proofs.Common.{◌≡◌, ℕ, List, ap, ap₂, ◌∙◌, ◌≤◌, max, inl, inr, zero, suc, ◌+◌, ◌-◌, ◌<◌, ◌==◌, ◌&&◌, ◌||◌, not, Bool, true, false, nat_eq, nat_lt, eqb, if◌then◌else◌, [], ◌∷◌, ◌++◌, length, get_or, drop, map, refl, sym, arith, drop-cons}
 use Rattle.std.specs.List.{prefix_len, range_with_len}
 use Rattle.std.proofs.Math.Bool.{and-false}
-use Rattle.std.proofs.lemmas.Bool.{cases_Bool}
+use Rattle.std.proofs.lemmas.Bool.{cases_Bool, cases_lt, le-ltb, lt-ltb}
 use Rattle.std.proofs.lemmas.List.{append-nil, drop_all}
 use Rattle.std.proofs.lemmas.List.Folds.{length-prefix_len}
 use Rattle.pd_kinds.specs.declared.superblocks.EraSuper.{EraSuper}
@@ -12,7 +12,7 @@ use Rattle.pd_kinds.specs.Meaning.{era_meaning}
 use Rattle.pd_grammar.proofs.GrammarLemmas.{not_empty}
 use Rattle.pd_grammar.specs.EraText.{eras_from, joined_eras}
 use Rattle.pd_answers.specs.QueryLines.{since_lines, is_since, run_line}
-use Rattle.pd_meaning_era.specs.Eras.{eras_below}
+use Rattle.pd_meaning_era.specs.Eras.{eras_below, from_era}
 use Rattle.pd_dumps.specs.SinceLines.{since_text, line_bytes, side, since_line, since_of}
 use Rattle.pd_dumps.specs.EraLines.{printed_from, runs_of}
 use Rattle.pd_dumps.proofs.EraLemmas.{grown, only_line, run_ends}
@@ -136,3 +136,20 @@ runs_walked since first n (x ∷ eras) =
 -- all lines
 pub all_lines : (since : ℕ) (eras : List ℕ) → since_text since eras ≡ runs_of since_line (map (side since) eras)
 all_lines since eras = sym (all_walked since eras) ∙ sym (runs_walked since 0 0 eras).0
+
+-- Eras that are the same from one on have the same lines.
+
+side_from : (since era : ℕ) → side since (from_era since era) ≡ side since era
+side_from since era = elim (cases_lt era since) [
+  | inl earlier ↦ let still : max (since - 1) era < since = omega arith in rw (lt-ltb era since earlier, lt-ltb (max (since - 1) era) since still) refl
+  | inr from ↦ let still : since ≤ max (since - 1) era = omega arith in rw (le-ltb era since from, le-ltb (max (since - 1) era) since still) refl
+]
+
+sides_from : (since : ℕ) (eras : List ℕ) → map (side since) (map (from_era since) eras) ≡ map (side since) eras
+sides_from since [] = refl
+sides_from since (era ∷ eras) = ap₂ (λ (x : ℕ) (xs : List ℕ). x ∷ xs) (side_from since era) (sides_from since eras)
+
+pub same_lines : (since : ℕ) (left eras : List ℕ) → map (from_era since) left ≡ map (from_era since) eras → since_text since left ≡ since_text since eras
+same_lines since left eras same =
+    all_lines since left
+    ∙ (ap (runs_of since_line) (sym (sides_from since left) ∙ (ap (map (side since)) same ∙ sides_from since eras)) ∙ sym (all_lines since eras))

@@ -131,21 +131,17 @@ impl Query for TextOfEra {
     }
 }
 
-// The eras of an era target, of which no part was taken (`era_dump`, `era_invalidate`).
+// The eras of an era target, of which no part was taken (`era_dump`).
 
 /// The number of blocks fits its field.
-fn blocks_fit(s: EraSuper)
+pub(crate) fn blocks_fit(s: EraSuper)
     ensures { s.blocks < 2 ^ 32 }
 {}
 
 /// The eras of the target with this superblock.
 ///
 /// Fails with `Device` where a read failed, and with `Memory` where memory wasn't found.
-pub(crate) fn eras_of<D: Device>(
-    alloc: Global,
-    dev: &mut D,
-    s: &EraSuper,
-) -> Result<Eras, QueryFault>
+fn eras_of<D: Device>(alloc: Global, dev: &mut D, s: &EraSuper) -> Result<Eras, QueryFault>
     requires { IsAttached (D.state dev.old) }
     ensures eras { IfOk result (λ eras. IfSome (D.state dev.old).held (λ image. eras_left image eras ≡ eras_below image s.now)) }
     ensures few { IfOk result (λ eras. blocks_left eras < 2 ^ 32) }

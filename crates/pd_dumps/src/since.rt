@@ -1,15 +1,15 @@
 //! What was written since an era (`era_invalidate`).
 
-ghost use Rattle.std.specs.Prelude.{◌≡◌, ◌<◌, ◌^◌};
+ghost use Rattle.std.specs.Prelude.{◌≡◌, ◌<◌, ◌^◌, IfOk, IfSome};
 ghost use Rattle.pd_answers.specs.QueryLines.{since_lines};
 ghost use Rattle.pd_image.specs.Device.{IsAttached, OnlyReads};
 ghost use Rattle.pd_image.specs.Sink.{KeepsSink};
 ghost use Rattle.pd_meaning_era.specs.Eras.{eras_below};
 ghost use Rattle.pd_meaning_era.specs.Parts.{blocks_left, eras_left};
-ghost use Rattle.pd_query.specs.Query.{PutsText, QueryEnds};
+ghost use Rattle.pd_query.specs.Query.{PutsText, QueryEnds, StartFails};
 ghost use Rattle.pd_dumps.specs.SinceLines.{PutsLines, since_text, line_bytes, side, since_line};
 
-use crate::era::eras_of;
+use crate::era::blocks_fit;
 use crate::runs::{RunKind, add_runs};
 use crate::supers::read_era;
 use pd_image::{Device, Sink};
@@ -20,7 +20,8 @@ use pd_query::{Query, QueryFault, finish, print_line};
 use std::alloc::Global;
 
 /// Puts a line for each longest run of blocks whose era is the given one or a later one, by ascending block, of the era
-/// target with this superblock. It reads the eras part by part, and holds one part at a time, in four bytes a block.
+/// target with this superblock. It reads the writesets of that era and later ones alone. It reads the eras part by part, and
+/// holds one part at a time, in four bytes a block.
 ///
 /// Fails with `Device` where a read failed, with `Memory` where memory wasn't found, and with `Sink` where `out` failed;
 /// then a front of the lines was put. Lines may be put before all eras were read.
@@ -41,8 +42,29 @@ pub fn written_since<D: Device, K: Sink>(
     ensures faults { QueryEnds result (D.state dev.old).faults (D.state dev.new).faults (K.state out.old).faults (K.state out.new).faults }
 {
     lists_are_the_eras();
-    let mut eras = eras_of(alloc, dev, s)?;
+    let mut eras = eras_since(alloc, dev, s, era)?;
     put_since(era, &mut eras, dev, out)
+}
+
+/// The eras of the target with this superblock from this one on.
+///
+/// Fails with `Device` where a read failed, and with `Memory` where memory wasn't found.
+fn eras_since<D: Device>(
+    alloc: Global,
+    dev: &mut D,
+    s: &EraSuper,
+    era: u32,
+) -> Result<Eras, QueryFault>
+    requires { IsAttached (D.state dev.old) }
+    ensures text { IfOk result (λ eras. IfSome (D.state dev.old).held
+        (λ image. since_text era (eras_left image eras) ≡ since_text era (eras_below image s.now))) }
+    ensures few { IfOk result (λ eras. blocks_left eras < 2 ^ 32) }
+    ensures kept { OnlyReads (D.state dev.old) (D.state dev.new) }
+    ensures faults { StartFails result (D.state dev.old).faults (D.state dev.new).faults }
+{
+    blocks_fit(*s);
+    let eras = Eras::since(alloc, dev, s, era)?;
+    Ok(eras)
 }
 
 /// Which blocks of an era target were written in this era or later, as it is asked for.

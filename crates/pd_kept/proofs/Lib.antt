@@ -4,3 +4,4 @@ pub mod StatesLemmas
 pub mod BoundLemmas
 pub mod LackingLemmas
 pub mod LatestLemmas
+mod CacheLemmas

@@ -8,4 +8,5 @@ pub mod LaidEra
 pub mod LaidThin
 pub mod Saved
 pub mod SavedCache
+pub mod CacheRoots
 pub mod Example

@@ -18,6 +18,7 @@ pub mod EraLawful
 pub mod MoreBlocks
 pub mod NamedTold
 pub mod OrderLemmas
+pub mod CacheWords
 pub mod Searched
 pub mod SeenLemmas
 pub mod SeenMade
@@ -28,3 +29,4 @@ pub mod ToldWhole
 pub mod WrittenBack
 pub mod LostFound
 pub mod ShrunkSharing
+pub mod UnusedBlocks

@@ -12,9 +12,9 @@ use Rattle.std.proofs.lemmas.List.Sorted.{All-permutation, IsPermutation-map, su
 use Rattle.std.proofs.lemmas.List.Sums.{sum_by-cons}
 use Rattle.pd_answers.specs.Requests.{Request}
 use Rattle.pd_answers.specs.declared.tool.Tool.{Tool}
-use Rattle.pd_answers.specs.declared.tool.Tool.TheVariants.{Check, Dump, Restore, Repair, Search, NamedRepair, DryRepair, DrySearch, DryNamed, RepairCache, ReverseMap, DeviceList, Since, Generate, Rehearse, Writeback, Shrink}
+use Rattle.pd_answers.specs.declared.tool.Tool.TheVariants.{Check, Dump, Restore, Repair, Search, NamedRepair, DryRepair, DrySearch, DryNamed, RepairCache, DryRepairCache, ReverseMap, DeviceList, Unused, Since, Generate, Rehearse, Writeback, Shrink}
 use Rattle.pd_answers.specs.Tools.{ToolWords, tools, image_word}
-use Rattle.pd_answers.specs.Words.{Given, Item, once, asked, given, given_of, given_super, is_flag, is_known, is_named, is_value, items_of, known, more, named_roots, request_of, tool_in, value_of}
+use Rattle.pd_answers.specs.Words.{Given, Item, once, asked, given, given_of, given_super, is_flag, is_known, is_named, is_value, cache_roots, items_of, known, more, named_roots, request_of, tool_in, value_of}
 use Rattle.pd_laws_answers.specs.Words.{AreGroups, Group, IsGroup, flag, option, operand, words_of_group, words_of_groups}
 
 -- the item of a group
@@ -29,12 +29,12 @@ unfolding items_of
 operand_first word [] is = rw is refl
 operand_first word (next ∷ words) is = rw is refl
 
-flag_first : (name : List ℕ) (words : List (List ℕ)) → is_value name ≡ false → is_flag name ≡ true → items_of (name ∷ words) ≡ more name name (items_of words)
+pub flag_first : (name : List ℕ) (words : List (List ℕ)) → is_value name ≡ false → is_flag name ≡ true → items_of (name ∷ words) ≡ more name name (items_of words)
 unfolding items_of
 flag_first name [] word is = rw (word, is) refl
 flag_first name (next ∷ words) word is = rw (word, is) refl
 
-option_first : (name value : List ℕ) (words : List (List ℕ)) → is_value name ≡ false → is_flag name ≡ false → is_value value ≡ true
+pub option_first : (name value : List ℕ) (words : List (List ℕ)) → is_value name ≡ false → is_flag name ≡ false → is_value value ≡ true
     → items_of (name ∷ value ∷ words) ≡ more name value (items_of words)
 unfolding items_of
 option_first name value words word other is = rw (word, other, is) refl
@@ -169,7 +169,7 @@ module _ (items others : List Item) (moved : IsPermutation items others) where
   ]
 
   same_request : (tool : Tool) → request_of tool others ≡ request_of tool items
-  unfolding request_of given_super named_roots
+  unfolding request_of given_super named_roots cache_roots
   same_request (Check kind) = simp same_given
   same_request (Dump kind) = simp same_given
   same_request (Restore kind) = simp same_given
@@ -180,8 +180,10 @@ module _ (items others : List Item) (moved : IsPermutation items others) where
   same_request DrySearch = simp same_given
   same_request DryNamed = simp same_given
   same_request RepairCache = simp same_given
+  same_request DryRepairCache = simp same_given
   same_request ReverseMap = simp same_given
   same_request DeviceList = simp same_given
+  same_request Unused = simp same_given
   same_request Since = simp same_given
   same_request Generate = simp same_given
   same_request Rehearse = simp same_given

@@ -1,5 +1,6 @@
 -- What is saved of a sound cache is its meaning.
 use Rattle.std.proofs.Common.{◌≡◌, ℕ, ◌+◌, ◌/◌, ◌%◌, ◌<◌, Bool, true, false, cond, not, ◌&&◌, nat_eq, List, [], ◌∷◌, length, get_or, map, filter, slice_get, Option, Some, None, refl, sym, ◌∙◌, ap, arith, inl, inr}
+use Rattle.std.specs.Prelude.{is_none}
 use Rattle.std.specs.List.{AllByRecursion, range_with_len}
 use Rattle.std.specs.Int.{bit_at}
 use Rattle.std.proofs.lemmas.Bool.{and_parts, cases_Bool, eq-eqb, eqb-false, eqb-true, ne_eqb, not-false, not-true, true≢false}
@@ -20,9 +21,11 @@ use Rattle.pd_kinds.proofs.CleanLemmas.{clean_super_where_none, whole_where_none
 use Rattle.pd_kinds.proofs.SoundLemmas.{IsInside}
 use Rattle.pd_kinds.specs.declared.kind.Stage.TheVariants as stages
 use Rattle.pd_laid.specs.Laid.{tree_of}
+use Rattle.pd_laid.specs.CacheRoots.{mapping_word, unknown_words}
 use Rattle.pd_laid.specs.SavedCache.{found_entries, is_bit_saved, is_saved_dirty, saved_cache, saved_cache_from, saved_entry, saved_hint, saved_word}
 use Rattle.pd_laid.proofs.NodeFacts.{all_parts}
 use Rattle.pd_laid.proofs.SalvageLemmas.{filter_all, inside_is, tests_hold}
+use Rattle.pd_salvage_cache.proofs.LostLemmas.{none_counted}
 use Rattle.pd_tree.specs.Search.{HasCacheRoots}
 use Rattle.pd_laws_changed.proofs.SoundCache.{is_valid_at, origin_at, origins_are}
 use Rattle.pd_laws_answers.proofs.SavedEntries.{all_below, made_of, single_entries}
@@ -200,6 +203,12 @@ module _ (image : List (List ℕ)) (device_blocks : ℕ) where
           let same = ap (λ (n : ℕ). map (origin_at words) (filter (is_valid_at words) (range_with_len 0 n))) number in
           ap has_repeat (sym same ∙ sym (origins_are words words 0 refl)) ∙ tests.0 roots.mappings.block
 
+      -- no mapping word is lost
+      pub none_unknown : unknown_words fields image ≡ 0
+      unfolding unknown_words
+      none_unknown = none_counted (λ i. is_none (mapping_word fields image i)) 0 fields.blocks (λ i from below.
+          ap (λ (o : Option ℕ). is_none o) (mapping_saved _ i mapping_index ∙ slice_get-get_or words i 0 (omega (arith, below, number))))
+
       pub cache_saved : saved_cache image ≡ cache_meaning image
       unfolding saved_cache_from cache_meaning cache_graph
       cache_saved =
@@ -219,3 +228,10 @@ unfolding faults cache_checked cache_graph graph_of
 saved_where_none image ordered roots bytes none =
     let inside = inside_if_clean image (clean_super_where_none (cache_checked image) image (stages.Walk ∷ stages.Order ∷ stages.Whole ∷ []) none) in
     cache_saved image (length image) ordered bytes roots inside (λ b broken within. whole_where_none (cache_checked image) image [] none b broken within)
+
+pub known_where_none : (image : List (List ℕ)) → AreInOrder (cache_graph (block_at image 0)) image → HasCacheRoots (cache_graph (block_at image 0)) image (cache_fields (block_at image 0))
+    → HasBytes image → faults Cache stages.Whole image ≡ [] → unknown_words (cache_fields (block_at image 0)) image ≡ 0
+unfolding faults cache_checked cache_graph graph_of
+known_where_none image ordered roots bytes none =
+    let inside = inside_if_clean image (clean_super_where_none (cache_checked image) image (stages.Walk ∷ stages.Order ∷ stages.Whole ∷ []) none) in
+    none_unknown image (length image) ordered bytes roots inside (λ b broken within. whole_where_none (cache_checked image) image [] none b broken within)

@@ -4,7 +4,7 @@ use Rattle.std.specs.Prelude.{ℕ, Bool, List, [], ◌∷◌, ◌++◌, Option, 
 use Rattle.pd_kinds.specs.declared.kind.Kind.{Kind}
 use Rattle.pd_kinds.specs.declared.kind.Passing.{Passing}
 use Rattle.pd_laws_answers.specs.Search.{RootWords, with_roots, NumberWords, with_numbers}
-use Rattle.pd_laws_answers.specs.Words.{check_name, in_version, letting_pass, to_file, with_sharing}
+use Rattle.pd_laws_answers.specs.Words.{CacheRootWords, check_name, in_version, letting_pass, naming_roots, to_file, with_sharing}
 
 -- a check in which leaks pass, and one that clears the flag, in which leaks pass or not
 abbrev pub passing_words : Kind → List ℕ → List (List ℕ)
@@ -25,6 +25,9 @@ rmap_words region file image = codes "thin_rmap" ∷ codes "--region" ∷ region
 
 abbrev pub since_words : List ℕ → Option (List ℕ) → List ℕ → List (List ℕ)
 since_words era file image = codes "era_invalidate" ∷ codes "--written-since" ∷ era ∷ (to_file file ++ (image ∷ []))
+
+abbrev pub trim_words : Option (List ℕ) → List ℕ → List (List ℕ)
+trim_words file image = codes "thin_trim" ∷ codes "--list" ∷ (to_file file ++ (image ∷ []))
 
 -- a restore by a tool's name alone, and that of a cache
 abbrev pub restore_words : List ℕ → List ℕ → List ℕ → List (List ℕ)
@@ -56,9 +59,13 @@ abbrev pub dry_named_words : Bool → List ℕ → RootWords → NumberWords →
 dry_named_words shared image roots words =
     codes "thin_repair" ∷ codes "--dry-run" ∷ (with_sharing shared ++ (codes "-i" ∷ image ∷ with_roots roots (with_numbers words)))
 
--- a repair of a cache
-abbrev pub cache_repair_words : Option (List ℕ) → List ℕ → List ℕ → List (List ℕ)
-cache_repair_words version from to = codes "cache_repair" ∷ (in_version version ++ (codes "-i" ∷ from ∷ codes "-o" ∷ to ∷ []))
+-- a repair of a cache, and a dry run of it
+abbrev pub cache_repair_words : Option (List ℕ) → CacheRootWords → List ℕ → List ℕ → List (List ℕ)
+cache_repair_words version roots from to =
+    codes "cache_repair" ∷ (in_version version ++ naming_roots roots (codes "-i" ∷ from ∷ codes "-o" ∷ to ∷ []))
+
+abbrev pub dry_cache_words : Option (List ℕ) → CacheRootWords → List ℕ → List (List ℕ)
+dry_cache_words version roots image = codes "cache_repair" ∷ codes "--dry-run" ∷ (in_version version ++ naming_roots roots (codes "-i" ∷ image ∷ []))
 
 -- the generator's text, and its rehearsal
 abbrev pub generate_words : List ℕ → Option (List ℕ) → List (List ℕ)

@@ -6,3 +6,4 @@ pub mod Exact
 pub mod Sharing
 pub mod Shrink
 pub mod Writeback
+pub mod Unused

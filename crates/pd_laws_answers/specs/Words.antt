@@ -2,7 +2,7 @@
 -- What status 0 says to whoever gave the words of a command line: of what was read, of what was put to `out`, and of what
 -- the output holds.
 -- The words of a command line as groups, which can be given in any order.
-use Rattle.std.specs.Prelude.{◌≡◌, ℕ, Bool, true, false, List, [], ◌∷◌, Option, Some, None, IfSome, codes, ◌++◌}
+use Rattle.std.specs.Prelude.{◌≡◌, ℕ, ◌^◌, Bool, true, false, List, [], ◌∷◌, Option, Some, None, IfSome, codes, ◌++◌}
 use Rattle.std.specs.List.{AllByRecursion}
 use Rattle.pd_kinds.specs.declared.kind.Kind.{Kind}
 use Rattle.pd_kinds.specs.declared.kind.Kind.TheVariants.{Thin, Cache, Era}
@@ -23,7 +23,8 @@ use Rattle.pd_answers.specs.Rehearsals.{generated_text}
 use Rattle.pd_answers.specs.KeptLines.{IsTold, Told, told_text}
 use Rattle.pd_answers.specs.Promises.{terms_of}
 use Rattle.pd_answers.specs.QueryLines.{image_text}
-use Rattle.pd_answers.specs.Words.{asked, is_value, version_of, is_flag}
+use Rattle.pd_answers.specs.declared.request.CacheRoots.{CacheRoots}
+use Rattle.pd_answers.specs.Words.{asked, is_value, number_below, version_of, is_flag}
 use Rattle.pd_laws_laid.specs.Clean.{IsCleanPool}
 use Rattle.pd_laws_answers.specs.Exact.{IsOfText, LosesNothing, TellsClean, TellsPassed}
 
@@ -40,16 +41,48 @@ abbrev pub to_file : Option (List ℕ) → List (List ℕ)
 to_file None = []
 to_file (Some file) = codes "-o" ∷ file ∷ []
 
+-- a word with its value, where one is given
+abbrev pub if_given : List ℕ → Option (List ℕ) → List (List ℕ)
+if_given name None = []
+if_given name (Some word) = name ∷ word ∷ []
+
 -- `--metadata-version VERSION`, where one is given
 abbrev pub in_version : Option (List ℕ) → List (List ℕ)
-in_version None = []
-in_version (Some word) = codes "--metadata-version" ∷ word ∷ []
+in_version version = if_given (codes "--metadata-version") version
 
 -- a version that may be left out is said by its word
 abbrev pub IsVersionSaid : Option (List ℕ) → Option ℕ → Type 0
 IsVersionSaid None None = Unit {0}
 IsVersionSaid (Some word) (Some version) = IsName word × (version_of (Some word) ≡ Some version)
 IsVersionSaid _ _ = ⊥
+
+-- a block number that may be left out is said by its word
+abbrev pub IsBlockSaid : Option (List ℕ) → Option ℕ → Type 0
+IsBlockSaid None None = Unit {0}
+IsBlockSaid (Some word) (Some block) = IsName word × (number_below (2 ^ 64) word ≡ Some block)
+IsBlockSaid _ _ = ⊥
+
+-- the words for the roots of a cache's arrays, where they are named
+pub record CacheRootWords : Type 0 where
+  pub mappings : Option (List ℕ)
+  pub hints : Option (List ℕ)
+  pub dirty : Option (List ℕ)
+
+-- they are these roots in decimal
+pub record SayCacheRoots (words : CacheRootWords) (named : CacheRoots) : Type 0 where
+  pub mappings : IsBlockSaid words.mappings named.mappings
+  pub hints : IsBlockSaid words.hints named.hints
+  pub dirty : IsBlockSaid words.dirty named.dirty
+
+-- `--mapping-root ROOT`, `--hint-root ROOT` and `--dirty-root ROOT`, each where it is given
+abbrev pub naming_roots : CacheRootWords → List (List ℕ) → List (List ℕ)
+naming_roots words others =
+    if_given (codes "--mapping-root") words.mappings
+    ++ (if_given (codes "--hint-root") words.hints ++ (if_given (codes "--dirty-root") words.dirty ++ others))
+
+-- none of them is
+abbrev pub no_root_words : CacheRootWords
+no_root_words = record { mappings = None; hints = None; dirty = None }
 
 -- `--shared`, where shared leaves are kept
 abbrev pub with_sharing : Bool → List (List ℕ)

@@ -6,17 +6,21 @@ ghost use Rattle.pd_kinds.specs.declared.kind.Stage.TheVariants.{Whole, Super};
 ghost use Rattle.pd_kinds.specs.CacheFormat.{cache_fields, CacheFields};
 ghost use Rattle.pd_kinds.specs.Graph.{block_at};
 ghost use Rattle.pd_kinds.specs.Meaning.{cache_meaning};
+ghost use Rattle.pd_kinds.specs.Objects.{Appends};
 ghost use Rattle.pd_kinds.specs.Stages.{faults};
 ghost use Rattle.pd_kinds.specs.Image.{IsImage, room_of, HasBytes};
 ghost use Rattle.pd_kinds.specs.Crash.{IsSynced};
 ghost use Rattle.pd_grammar.specs.Lawful.{IsLawfulCache, AreEntries};
 ghost use Rattle.pd_grammar.specs.CacheText.{cache_need};
+ghost use Rattle.pd_laid.specs.CacheRoots.{unknown_words};
 ghost use Rattle.pd_laid.specs.SavedCache.{saved_cache, saved_cache_from};
+ghost use Rattle.pd_answers.specs.declared.request.CacheRoots.{CacheRoots};
+ghost use Rattle.pd_answers.specs.KeptCache.{keeps_line};
 ghost use Rattle.pd_answers.specs.Terms.{NoFaults, Objects};
 ghost use Rattle.pd_answers.specs.Outputs.{IsWorkDone};
 ghost use Rattle.pd_laws_answers.specs.Exact.{HoldsCacheOfText, IsDumpOf, IsRestoreAnswered, LeavesCacheOfText, IsCleanCacheIn};
 ghost use Rattle.pd_laws_answers.specs.Saved.{HoldsSavedCache, IsCacheRepairAnswered, IsSoundCacheRepair};
-ghost use Rattle.pd_laws_answers.specs.Saved.{IsVersionAsked, LeavesSavedCache, PutsKept, version_written};
+ghost use Rattle.pd_laws_answers.specs.Saved.{IsVersionAsked, LeavesSavedCache, PutsKept, no_roots, saved_with, version_written};
 ghost use Rattle.pd_laws_answers.specs.Writeback.{HoldsWrittenBack, IsWritebackAnswered, LeavesTheView};
 
 use pd_grammar::{
@@ -85,21 +89,23 @@ pub fn restored_cache_dump_means_the_same()
 
 // What a repaired cache is.
 
-/// What is saved of a cache whose superblock has no fault is lawful, whatever else is damaged: a text spells it.
+/// What is saved of a cache whose superblock has no fault is lawful, from whatever roots, and whatever else is damaged: a text spells it.
 pub fn saved_caches_are_lawful()
-    ensures { (image : List (List ℕ)) → IsImage image → faults Cache Super image ≡ [] → IsLawfulCache (saved_cache image) }
+    ensures { (named : CacheRoots) (image : List (List ℕ)) → IsImage image → faults Cache Super image ≡ []
+        → IsLawfulCache (saved_with named image) }
 {
     saved_entries_are_lawful();
 }
 
 /// Once the work is done, and so at status 0, the output holds, with nothing unsynced, an image that is clean and means what is saved of
-/// the input, in the version that was asked, 1 or 2, or else in the input's own. At status 0 the line of what is kept was put.
+/// the input with the roots that were named, in the version that was asked, 1 or 2, or else in the input's own. At status 0 the line of
+/// what is kept was put.
 pub fn repaired_cache_is_clean()
-    ensures made { (version : Option ℕ) (from to : List ℕ) (before after : Objects) (status : ℕ) → IsVersionAsked version
-        → IsCacheRepairAnswered version from to before after status
-        → IsWorkDone before after status → HoldsSavedCache version before after }
-    ensures line { (version : Option ℕ) (from to : List ℕ) (before after : Objects)
-        → IsCacheRepairAnswered version from to before after 0 → PutsKept before after }
+    ensures made { (version : Option ℕ) (named : CacheRoots) (from to : List ℕ) (before after : Objects) (status : ℕ)
+        → IsVersionAsked version → IsCacheRepairAnswered version named from to before after status
+        → IsWorkDone before after status → HoldsSavedCache version named before after }
+    ensures line { (version : Option ℕ) (named : CacheRoots) (from to : List ℕ) (before after : Objects)
+        → IsCacheRepairAnswered version named from to before after 0 → PutsKept named before after }
 {
     saved_caches_are_lawful();
     laid_cache_is_clean();
@@ -107,24 +113,28 @@ pub fn repaired_cache_is_clean()
 
 /// Under every status a crash at any moment of the call leaves, by no chance, the old image, no valid superblock, or such an image.
 pub fn crashed_repair_leaves_no_other_cache()
-    ensures { (version : Option ℕ) (from to : List ℕ) (before after : Objects) (status : ℕ) → IsVersionAsked version
-        → IsCacheRepairAnswered version from to before after status → LeavesSavedCache version before after }
+    ensures { (version : Option ℕ) (named : CacheRoots) (from to : List ℕ) (before after : Objects) (status : ℕ)
+        → IsVersionAsked version → IsCacheRepairAnswered version named from to before after status
+        → LeavesSavedCache version named before after }
 {
     saved_caches_are_lawful();
     laid_cache_is_clean();
 }
 
-/// A cache without faults up to the stage Whole is repaired, where there is room for it, nothing fails and memory isn't wanting; and what
-/// is repaired means the same cache, in the version that was asked, or else in its own.
+/// A cache without faults up to the stage Whole is repaired, where no root is named, there is room for it, nothing fails and memory isn't
+/// wanting; and what is repaired means the same cache, in the version that was asked, or else in its own. Nothing of it is unknown.
 pub fn repaired_sound_cache_means_the_same()
     ensures repaired { (version : Option ℕ) (image base : List (List ℕ)) (from to : List ℕ) (before after : Objects) (status : ℕ)
         → IsSoundCacheRepair image base before
         → cache_need (version_written version image) (cache_meaning image) (room_of (length base)) ≤ room_of (length base)
-        → IsCacheRepairAnswered version from to before after status → NoFaults before after → (status ≡ 0) ⊎ (status ≡ 7) }
+        → IsCacheRepairAnswered version no_roots from to before after status → NoFaults before after → (status ≡ 0) ⊎ (status ≡ 7) }
     ensures same { (version : Option ℕ) (image base : List (List ℕ)) (from to : List ℕ) (before after : Objects)
         → IsVersionAsked version → IsSoundCacheRepair image base before
-        → IsCacheRepairAnswered version from to before after 0
+        → IsCacheRepairAnswered version no_roots from to before after 0
         → IfSome after.output.held (λ repaired. IsCleanCacheIn (version_written version image) repaired (cache_meaning image)) }
+    ensures known { (version : Option ℕ) (image base : List (List ℕ)) (from to : List ℕ) (before after : Objects)
+        → IsSoundCacheRepair image base before → IsCacheRepairAnswered version no_roots from to before after 0
+        → Appends (keeps_line (cache_meaning image) 0) before.out.written after.out.written }
 {
     repaired_cache_is_clean();
     sound_caches_are_saved();
@@ -166,9 +176,11 @@ pub fn stopped_writeback_keeps_the_view()
 
 // What can be saved of a damaged cache: of a sound cache it is the cache's meaning, and its entries are always lawful.
 
-/// Of a cache without faults up to the stage Whole all is saved: what is saved is its meaning.
+/// Of a cache without faults up to the stage Whole all is saved: what is saved is its meaning, and no mapping word is lost.
 pub fn sound_caches_are_saved()
-    ensures { (image : List (List ℕ)) → HasBytes image → faults Cache Whole image ≡ [] → saved_cache image ≡ cache_meaning image }
+    ensures saved { (image : List (List ℕ)) → HasBytes image → faults Cache Whole image ≡ [] → saved_cache image ≡ cache_meaning image }
+    ensures known { (image : List (List ℕ)) → HasBytes image → faults Cache Whole image ≡ []
+        → unknown_words (cache_fields (block_at image 0)) image ≡ 0 }
 {
     trees_are_in_order();
     superblocks_lead_to_reached_roots();

@@ -9,10 +9,13 @@ ghost use Rattle.pd_kinds.specs.declared.kind.Passing.{Passing};
 ghost use Rattle.pd_kinds.specs.declared.kind.Passing.TheVariants.{Nothing, Leaks};
 ghost use Rattle.pd_kinds.specs.Flagged.{kind_of};
 ghost use Rattle.pd_kinds.specs.Meaning.{cache_meaning, era_meaning, thin_meaning};
+ghost use Rattle.pd_kinds.specs.Objects.{Appends};
 ghost use Rattle.pd_grammar.specs.CacheText.{SpellsCache};
 ghost use Rattle.pd_grammar.specs.EraText.{SpellsEra};
 ghost use Rattle.pd_grammar.specs.ThinText.{SpellsPool};
+ghost use Rattle.pd_answers.specs.KeptCache.{keeps_line};
 ghost use Rattle.pd_answers.specs.Terms.{Objects};
+ghost use Rattle.pd_answers.specs.declared.request.CacheRoots.{CacheRoots};
 ghost use Rattle.pd_answers.specs.declared.request.GivenSuper.{GivenSuper};
 ghost use Rattle.pd_answers.specs.declared.request.NamedRoots.{NamedRoots};
 ghost use Rattle.pd_answers.specs.Outputs.{IsWorkDone};
@@ -20,24 +23,27 @@ ghost use Rattle.pd_answers.specs.QueryLines.{device_list_lines, rmap_lines, sin
 ghost use Rattle.pd_answers.specs.declared.request.Request.TheVariants.{Restore};
 ghost use Rattle.pd_answers.specs.Words.{Region, asked, generated_number, is_value, number_below, region_of, version_of};
 ghost use Rattle.pd_laws_answers.specs.CommandLines.{cache_repair_words, cache_restore_words, clearing_words, dry_named_words};
+ghost use Rattle.pd_laws_answers.specs.CommandLines.{dry_cache_words};
 ghost use Rattle.pd_laws_answers.specs.CommandLines.{dry_repair_words, dry_search_words, generate_words, image_words, named_repair_words};
 ghost use Rattle.pd_laws_answers.specs.CommandLines.{passing_words, rehearse_words, repair_words, restore_words, rmap_words, search_words};
-ghost use Rattle.pd_laws_answers.specs.CommandLines.{shared_dump_words, shrink_words, since_words, writeback_words};
+ghost use Rattle.pd_laws_answers.specs.CommandLines.{shared_dump_words, shrink_words, since_words, trim_words, writeback_words};
 ghost use Rattle.pd_laws_answers.specs.Exact.{HoldsCacheOfText, HoldsCleared, HoldsPoolOfText, HoldsSalvage};
 ghost use Rattle.pd_laws_answers.specs.Exact.{HoldsTargetOfText, LeavesOldOrCleared, LeavesTornAtMost};
 ghost use Rattle.pd_laws_answers.specs.Search.{HasNoStates, HoldsNamed, RootWords, SayRoots, TellsNamed, TellsStates, HasNoRoots};
 ghost use Rattle.pd_laws_answers.specs.Search.{HoldsBestPool, HoldsBestShape, HoldsFoundPool, HoldsFoundShape, NumberWords, SayNumbers};
-ghost use Rattle.pd_laws_answers.specs.Saved.{HoldsSavedCache, HoldsSavedShape, PutsKept};
+ghost use Rattle.pd_laws_answers.specs.Saved.{HoldsSavedCache, HoldsSavedShape, IsSoundCacheRepair, PutsKept, TellsCacheOfInput};
 ghost use Rattle.pd_laws_answers.specs.Sharing.{HasTimesOfSharing, IsDamagedPool, IsKeptPool, SeesSharing, SeesSharingWhere};
 ghost use Rattle.pd_laws_answers.specs.Shrink.{HoldsSharing, HoldsShrunk};
-ghost use Rattle.pd_laws_answers.specs.Words.{CallEnds, HoldsGenerated, InputLosesNothing, IsName, IsVersionSaid};
+ghost use Rattle.pd_laws_answers.specs.Unused.{ListsUnmappedOfInput};
+ghost use Rattle.pd_laws_answers.specs.Words.{CacheRootWords, CallEnds, HoldsGenerated, InputLosesNothing, IsName, IsVersionSaid};
+ghost use Rattle.pd_laws_answers.specs.Words.{SayCacheRoots, no_root_words};
 ghost use Rattle.pd_laws_answers.specs.Words.{PutsGenerated, PutsOfInput, PutsShapeOfInput, PutsTextOfInput};
 ghost use Rattle.pd_laws_answers.specs.Words.{TellsKeptOfInput, TellsWhetherClean, TellsWhetherPassed};
 ghost use Rattle.pd_laws_answers.specs.Writeback.{HoldsWrittenBack};
 
 use crate::caches::{
-    repaired_cache_is_clean, restored_cache_is_clean, sound_caches_are_lawful,
-    written_back_cache_is_clean,
+    repaired_cache_is_clean, repaired_sound_cache_means_the_same, restored_cache_is_clean,
+    sound_caches_are_lawful, written_back_cache_is_clean,
 };
 use crate::laws::{
     checks_tell_clean_images, cleared_image_is_clean, clearing_checks_tell_what_passes,
@@ -56,10 +62,12 @@ use crate::shrinks::{shrunk_pool_is_clean_and_reads_the_same, shrunk_pool_keeps_
 use crate::targets::{restored_target_is_clean, sound_targets_are_lawful};
 use pd_gen::generated_text_spells_a_pool;
 use pd_grammar::{cache_text_spells, era_text_spells, thin_text_spells};
+use pd_kinds::faults_are_none_where_clean;
 use pd_laid::{
     either_version_spells_a_shape, pool_text_has_one_shape, pool_text_has_one_verdict,
     pool_text_is_accepted_where_there_is_room,
 };
+use pd_laws_changed::unused_blocks_are_mapped_by_none;
 use pd_laws_shapes::sound_pools_have_a_shape;
 use pd_meaning_thin::sound_pools_are_lawful;
 use pd_scan::first_state_is_the_best;
@@ -349,17 +357,34 @@ pub fn thin_repair_tells_the_states()
 
 /// `cache_repair -i IMAGE -o IMAGE`, in the input's version of the metadata or, where `--metadata-version` says so, another: status 0 says
 /// that the output is clean and means what can be saved of the cache, in that version, with nothing unsynced, and that the line of what is
-/// kept was put; of an input without faults up to the stage Whole that is all of it. The output is so under any status once `out` was
-/// touched.
+/// kept was put. The roots that `--mapping-root`, `--hint-root` and `--dirty-root` name stand for those of the superblock. Of an input
+/// without faults up to the stage Whole, where none is named, that is all of it, and nothing is unknown. The output is so under any status
+/// once `out` was touched.
 pub fn cache_repair_makes_what_is_saved()
-    ensures made { (word : Option (List ℕ)) (version : Option ℕ) (from to : List ℕ) (before after : Objects) (status : ℕ)
-        → IsVersionSaid word version → IsName from → IsName to → CallEnds (cache_repair_words word from to) status before after
-        → IsWorkDone before after status → HoldsSavedCache version before after }
-    ensures line { (word : Option (List ℕ)) (version : Option ℕ) (from to : List ℕ) (before after : Objects) → IsVersionSaid word version
-        → IsName from → IsName to → CallEnds (cache_repair_words word from to) 0 before after → PutsKept before after }
+    ensures made { (word : Option (List ℕ)) (version : Option ℕ) (roots : CacheRootWords) (named : CacheRoots)
+        (from to : List ℕ) (before after : Objects) (status : ℕ) → IsVersionSaid word version → SayCacheRoots roots named → IsName from
+        → IsName to → CallEnds (cache_repair_words word roots from to) status before after
+        → IsWorkDone before after status → HoldsSavedCache version named before after }
+    ensures line { (word : Option (List ℕ)) (version : Option ℕ) (roots : CacheRootWords)
+        (named : CacheRoots) (from to : List ℕ) (before after : Objects) → IsVersionSaid word version → SayCacheRoots roots named
+        → IsName from → IsName to → CallEnds (cache_repair_words word roots from to) 0 before after → PutsKept named before after }
+    ensures known { (word : Option (List ℕ)) (version : Option ℕ) (image base : List (List ℕ)) (from to : List ℕ) (before after : Objects)
+        → IsVersionSaid word version → IsName from → IsName to → IsSoundCacheRepair image base before
+        → CallEnds (cache_repair_words word no_root_words from to) 0 before after
+        → Appends (keeps_line (cache_meaning image) 0) before.out.written after.out.written }
 {
     repaired_cache_is_clean();
+    repaired_sound_cache_means_the_same();
 }
+
+/// `cache_repair --dry-run -i IMAGE`, with a version and roots before `-i` or not: status 0 says that the superblock of the image has no
+/// faults, and that it was put what a repair from these roots would keep: how many entries, how many of them are dirty, and of how many
+/// cache blocks the mapping word is lost; and the roots of the mapping arrays of which more words are saved.
+pub fn cache_repair_tells_what_it_would_keep()
+    ensures { (word : Option (List ℕ)) (version : Option ℕ) (roots : CacheRootWords) (named : CacheRoots) (image : List ℕ)
+        (before after : Objects) → IsVersionSaid word version → SayCacheRoots roots named → IsName image
+        → CallEnds (dry_cache_words word roots image) 0 before after → TellsCacheOfInput named before after }
+{}
 
 /// `thin_rmap --region FIRST..END IMAGE`, to a file or not: status 0 says that the image has no faults up to the stage Whole,
 /// and that the mappings to the data blocks of the region were put.
@@ -376,6 +401,16 @@ pub fn thin_ls_puts_the_devices()
         → IsName image → CallEnds (image_words (codes "thin_ls") file image) 0 before after
         → PutsOfInput Thin (λ held. device_list_lines (thin_meaning held)) before after }
 {}
+
+/// `thin_trim --list IMAGE`, to a file or not: status 0 says that the pool's image is clean, and that the runs of its unused data blocks
+/// were put: no mapping leads to one of them, neither of a device of the pool nor of one of the held root's.
+pub fn thin_trim_lists_the_unused_blocks()
+    ensures { (file : Option (List ℕ)) (image : List ℕ) (before after : Objects) → IfSome file IsName
+        → IsName image → CallEnds (trim_words file image) 0 before after → ListsUnmappedOfInput before after }
+{
+    unused_blocks_are_mapped_by_none();
+    faults_are_none_where_clean();
+}
 
 /// `era_invalidate --written-since ERA IMAGE`, to a file or not: status 0 says that the image has no faults up to the stage
 /// Whole, and that the blocks that were written in that era or later were put.

@@ -116,7 +116,7 @@ module _ (image : List (List ℕ)) (ordered : AreInOrder (thin_graph (block_at i
         (all_parts IsOther names entries (subst (AllByRecursion IsOther) (mapped_refs c reached) (none_named c 3 reached)))
 
     -- so by no mapping of a device
-    entries_unnamed : (root : ℕ) → IsReached graph image root 3 → AllByRecursion (λ (e : Entry). IsOther (mapped_block e.value)) (mapping_entries graph image root)
+    pub entries_unnamed : (root : ℕ) → IsReached graph image root 3 → AllByRecursion (λ (e : Entry). IsOther (mapped_block e.value)) (mapping_entries graph image root)
     unfolding entries_below thin_graph
     entries_unnamed root reached =
         under_all 11 nr data_blocks (thin_layout nr data_blocks) image ordered (bottom_tree data_blocks) 3 (omega arith) (bottom_is nr data_blocks)

@@ -17,3 +17,4 @@ pub mod SameBelow
 pub mod SettledImage
 pub mod Whole
 pub mod OneRole
+pub mod UnusedBlocks

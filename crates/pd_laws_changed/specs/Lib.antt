@@ -1,3 +1,4 @@
 pub mod Known
 pub mod KnownPool
 pub mod Premises
+pub mod Unused

@@ -5,6 +5,7 @@
 mod alike;
 mod moved;
 mod settled;
+mod unused;
 mod views;
 
 pub use alike::{
@@ -19,6 +20,7 @@ pub use settled::{
     dirty_places_are_named, settled_caches_have_the_same_faults, settled_caches_mean_the_same,
     settled_caches_show_the_same,
 };
+pub use unused::unused_blocks_are_mapped_by_none;
 pub use views::{
     cached_blocks_stand_in_their_places, copied_origins_stand_alone, copying_keeps_the_view,
     origins_come_once,

@@ -4,4 +4,4 @@ pub mod KnownLemmas
 pub mod PartLemmas
 pub mod SetLemmas
 pub mod SoundEra
-pub mod TakeLemmas
+pub mod WordLemmas

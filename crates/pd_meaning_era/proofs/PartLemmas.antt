@@ -1,17 +1,18 @@
 -- The eras of a part of the blocks, which rows raise.
-use Rattle.std.proofs.Common.{◌≡◌, ◌⊎◌, inl, inr, ℕ, ◌+◌, ◌-◌, ◌*◌, ◌/◌, ◌%◌, ◌<◌, ◌≤◌, Bool, true, false, not, ◌&&◌, nat_eq, nat_lt, List, length, get_or, refl, sym, ap, ◌∙◌, arith, cond, max, ◌++◌, drop, length-append, map, Result, Ok, Err}
+use Rattle.std.proofs.Common.{◌≡◌, ◌⊎◌, inl, inr, ℕ, ◌+◌, ◌-◌, ◌*◌, ◌/◌, ◌%◌, ◌<◌, ◌≤◌, Bool, true, false, not, ◌&&◌, nat_eq, nat_lt, List, length, get_or, refl, sym, ap, ap₂, ◌∙◌, arith, cond, max, [], ◌∷◌, ◌++◌, drop, length-append, map, Result, Ok, Err}
 use Rattle.std.specs.Int.{bit_at}
 use Rattle.std.proofs.lemmas.Bool.{cases_lt, lt-ltb, le-ltb}
-use Rattle.std.proofs.lemmas.List.{get_or_past, get_or-drop, get_or_append_left, get_or-append_right}
+use Rattle.std.proofs.lemmas.List.{get_or_past, get_or-drop, get_or-map, get_or_append_left, get_or-append_right, length-map}
 use Rattle.std.proofs.lemmas.Nat.Bits.{bit_at-zero}
 use Rattle.std.specs.List.{range_with_len}
 use Rattle.std.proofs.lemmas.List.FromFn.{fill_by_all, get_or-map-range_with_len, length-map-range_with_len}
 use Rattle.std.specs.Result.{OnOk}
 use Rattle.pd_kinds.specs.Array.{word_at, word_count}
 use Rattle.pd_kinds.specs.EraFormat.{EraFields}
-use Rattle.pd_tree.specs.Cursor.{words_from, array_words}
-use Rattle.pd_meaning_era.specs.Eras.{holds_from, era_below, eras_below, is_current, sets_below, with_sets, words_below}
+use Rattle.pd_tree.specs.Cursor.{words_from}
+use Rattle.pd_meaning_era.specs.Eras.{holds_from, era_below, eras_below, from_era, is_current, sets_below, with_sets, words_below}
 use Rattle.pd_meaning_era.proofs.RaiseLemmas.{length-words, word_in}
+use Rattle.pd_meaning_era.specs.EraWords.{era_words}
 use Rattle.pd_meaning_era.specs.declared.eras.Eras.{Eras}
 use Rattle.pd_meaning_era.specs.declared.notes.Row.{Row}
 use Rattle.pd_meaning_era.specs.Notes.{HasRows, RaisesRows, with_rows}
@@ -101,34 +102,47 @@ module _ (image : List (List ℕ)) where
   pub length_left : (eras : Eras) → length (eras_left image eras) ≡ blocks_left eras
   unfolding eras_left
   length_left eras =
-      length-map-range_with_len (λ b. with_rows image eras.rows.items b (get_or (array_words image eras.words) (b - 64 * eras.next) 0)) (64 * eras.next) (blocks_left eras)
+      length-map-range_with_len (λ b. with_rows image eras.rows.items b (get_or (era_words image eras.words) (b - 64 * eras.next) 0)) (64 * eras.next) (blocks_left eras)
 
-  at_left : (eras : Eras) (k : ℕ) → k < blocks_left eras → get_or (eras_left image eras) k 0 ≡ with_rows image eras.rows.items (64 * eras.next + k) (get_or (array_words image eras.words) k 0)
+  at_left : (eras : Eras) (k : ℕ) → k < blocks_left eras → get_or (eras_left image eras) k 0 ≡ with_rows image eras.rows.items (64 * eras.next + k) (get_or (era_words image eras.words) k 0)
   unfolding eras_left
   at_left eras k within =
       let same : 64 * eras.next + k - 64 * eras.next ≡ k = omega arith in
-      get_or-map-range_with_len (λ b. with_rows image eras.rows.items b (get_or (array_words image eras.words) (b - 64 * eras.next) 0)) (64 * eras.next) (blocks_left eras) k (64 * eras.next + k) 0 within refl
-      ∙ ap (λ (i : ℕ). with_rows image eras.rows.items (64 * eras.next + k) (get_or (array_words image eras.words) i 0)) same
+      get_or-map-range_with_len (λ b. with_rows image eras.rows.items b (get_or (era_words image eras.words) (b - 64 * eras.next) 0)) (64 * eras.next) (blocks_left eras) k (64 * eras.next + k) 0 within refl
+      ∙ ap (λ (i : ℕ). with_rows image eras.rows.items (64 * eras.next + k) (get_or (era_words image eras.words) i 0)) same
 
   -- before the first part
-  pub all_left : (eras : Eras) (fields : EraFields) → eras.blocks ≡ fields.blocks → eras.next ≡ 0 → array_words image eras.words ≡ words_below 4 image fields.array_root → HasRows image fields eras.rows.items
-      → eras_left image eras ≡ eras_below image fields
+  at_below : (fields : EraFields) (k : ℕ) → k < fields.blocks → get_or (eras_below image fields) k 0 ≡ era_below image fields k
   unfolding eras_below
-  all_left eras fields blocks start words rows =
+  at_below fields k within = get_or-map-range_with_len (era_below image fields) 0 fields.blocks k k 0 within (omega arith)
+
+  length_below : (fields : EraFields) → length (eras_below image fields) ≡ fields.blocks
+  unfolding eras_below
+  length_below fields = length-map-range_with_len (era_below image fields) 0 fields.blocks
+
+  pub all_left : (least : ℕ) (eras : Eras) (fields : EraFields) → eras.blocks ≡ fields.blocks → eras.next ≡ 0 → era_words image eras.words ≡ words_below 4 image fields.array_root
+      → HasRows image fields least eras.rows.items → map (from_era least) (eras_left image eras) ≡ map (from_era least) (eras_below image fields)
+  all_left least eras fields blocks start words rows =
       let left = blocks_left_is eras in
       let all : blocks_left eras ≡ fields.blocks = omega arith in
-      fill_by_all (era_below image fields) (eras_left image eras) fields.blocks 0 (length_left eras ∙ all)
-      (λ k within.
+      let before = length_left eras in
+      let after = length_below fields in
+      let f : ℕ → ℕ = from_era least in
+      same_lists (map f (eras_left image eras)) (map f (eras_below image fields))
+      (length-map (eras_left image eras) f ∙ (before ∙ (all ∙ sym (length-map (eras_below image fields) f ∙ after))))
+      (λ k inside.
+      let within : k < fields.blocks = omega (arith, inside, length-map (eras_below image fields) f, after) in
       let place : 64 * eras.next + k ≡ k = omega arith in
-      at_left eras k (omega arith)
-      ∙ (ap (λ (b : ℕ). with_rows image eras.rows.items b (get_or (array_words image eras.words) k 0)) place
-      ∙ (rows.each k (get_or (array_words image eras.words) k 0) within
-      ∙ ap (λ (ws : List ℕ). max (with_sets image (sets_below image fields.writesets_root) k (get_or ws k 0)) (cond (is_current image fields k) fields.era 0)) words)))
+      get_or-map f (eras_left image eras) k 0 0 (omega arith)
+      ∙ (ap f (at_left eras k (omega arith) ∙ ap (λ (b : ℕ). with_rows image eras.rows.items b (get_or (era_words image eras.words) k 0)) place)
+      ∙ (rows.each k (get_or (era_words image eras.words) k 0) within
+      ∙ (ap (λ (ws : List ℕ). f (max (with_sets image (sets_below image fields.writesets_root) k (get_or ws k 0)) (cond (is_current image fields k) fields.era 0))) words
+      ∙ sym (get_or-map f (eras_below image fields) k 0 0 (omega arith) ∙ ap f (at_below fields k within))))))
 
   -- a part was taken
   pub takes_part : (old new : Eras) (count : ℕ) (first : List ℕ) → new.rows.items ≡ old.rows.items → length new.part.items ≡ count → count ≤ blocks_left old → (count < blocks_left old → 64 * new.next ≡ 64 * old.next + count)
-      → count + (new.blocks - 64 * new.next) ≡ blocks_left old → length first ≡ count → first ≡ map (λ i. get_or (array_words image old.words) i 0) (range_with_len 0 count)
-      → array_words image new.words ≡ drop count (array_words image old.words) → RaisesRows image old.next old.rows.items first new.part.items → IsPart image old new
+      → count + (new.blocks - 64 * new.next) ≡ blocks_left old → length first ≡ count → first ≡ map (λ i. get_or (era_words image old.words) i 0) (range_with_len 0 count)
+      → era_words image new.words ≡ drop count (era_words image old.words) → RaisesRows image old.next old.rows.items first new.part.items → IsPart image old new
   takes_part old new count first rows number most whole left first_number first_is words raised =
       let part = new.part.items in
       let both = length-append part (eras_left image new) in
@@ -138,7 +152,7 @@ module _ (image : List (List ℕ)) where
       record { part = same_lists (eras_left image old) (part ++ eras_left image new) (omega arith) (λ k within. at k (omega arith)) }
     where
       W : List ℕ
-      W = array_words image old.words
+      W = era_words image old.words
 
       here : (k : ℕ) → k < count → get_or new.part.items k 0 ≡ with_rows image old.rows.items (64 * old.next + k) (get_or W k 0)
       here k within =
@@ -152,8 +166,8 @@ module _ (image : List (List ℕ)) where
           let word : count + (k - count) ≡ k = omega arith in
           let here_left = blocks_left_is new in
           at_left new (k - count) (omega arith)
-          ∙ (ap (λ (b : ℕ). with_rows image new.rows.items b (get_or (array_words image new.words) (k - count) 0)) place
-          ∙ (ap (λ (rs : List Row). with_rows image rs (64 * old.next + k) (get_or (array_words image new.words) (k - count) 0)) rows
+          ∙ (ap (λ (b : ℕ). with_rows image new.rows.items b (get_or (era_words image new.words) (k - count) 0)) place
+          ∙ (ap (λ (rs : List Row). with_rows image rs (64 * old.next + k) (get_or (era_words image new.words) (k - count) 0)) rows
           ∙ ap (with_rows image old.rows.items (64 * old.next + k))
           (ap (λ (ws : List ℕ). get_or ws (k - count) 0) words ∙ (get_or-drop count W (k - count) 0 ∙ ap (λ (i : ℕ). get_or W i 0) word))))
 
@@ -162,6 +176,14 @@ module _ (image : List (List ℕ)) where
         | inl less ↦ at_left old k within ∙ (sym (here k less) ∙ sym (get_or_append_left new.part.items (eras_left image new) 0 k (omega arith)))
         | inr behind ↦ at_left old k within ∙ (sym (there k behind within) ∙ sym (get_or-append_right new.part.items (eras_left image new) count k 0 (omega arith) behind))
       ]
+
+-- from the first era on, all eras are told
+from_first : (eras : List ℕ) → map (from_era 0) eras ≡ eras
+from_first [] = refl
+from_first (era ∷ eras) = let same : max (0 - 1) era ≡ era = omega arith in ap₂ (λ (e : ℕ) (es : List ℕ). e ∷ es) same (from_first eras)
+
+pub all_told : (left below : List ℕ) → map (from_era 0) left ≡ map (from_era 0) below → left ≡ below
+all_told left below same = sym (from_first left) ∙ (same ∙ from_first below)
 
 -- Facts over what a device tells, and under a result.
 

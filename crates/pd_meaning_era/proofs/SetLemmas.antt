@@ -1,14 +1,14 @@
 -- Rows of writesets, which are added from the last one on.
-use Rattle.std.proofs.Common.{◌≡◌, inl, inr, ℕ, suc, ◌<◌, Bool, cond, fold, max, min, List, [], ◌∷◌, ◌++◌, map, refl, sym, ap, ◌∙◌, arith, eq-eqb}
-use Rattle.std.proofs.lemmas.Bool.{cases_eq, ne_eqb}
+use Rattle.std.proofs.Common.{◌≡◌, inl, inr, ℕ, suc, ◌-◌, ◌<◌, ◌≤◌, Bool, true, false, cond, filter, fold, max, min, List, [], ◌∷◌, ◌++◌, map, refl, sym, ap, ◌∙◌, arith, eq-eqb}
+use Rattle.std.proofs.lemmas.Bool.{cases_eq, cases_lt, le-ltb, lt-ltb, ne_eqb}
 use Rattle.std.proofs.lemmas.Grind.{fold-append}
 use Rattle.std.proofs.lemmas.List.{map-append}
 use Rattle.pd_kinds.specs.EraFormat.{EraFields}
 use Rattle.pd_value.specs.declared.era.Writeset.{Writeset}
 use Rattle.pd_meaning_era.specs.declared.notes.Row.{Row}
 use Rattle.pd_meaning_era.specs.declared.notes.Walk.{Walk}
-use Rattle.pd_meaning_era.specs.Eras.{holds, holds_from, raised as raised_by, era_of_key, is_current, set_era, sets_below, with_sets, words_below}
-use Rattle.pd_meaning_era.specs.Notes.{HasRows, HasSets, sets_of, with_rows, words_at, words_at_each, AddsSet, Goes}
+use Rattle.pd_meaning_era.specs.Eras.{holds, holds_from, raised as raised_by, era_of_key, from_era, is_current, set_era, sets_below, with_sets, words_below}
+use Rattle.pd_meaning_era.specs.Notes.{HasRows, HasSets, is_set_from, sets_of, with_rows, words_at, words_at_each, AddsSet, Goes}
 use Rattle.pd_meaning_era.proofs.LevelLemmas.{from_first, same_end, each_more, each_none_at, words_at_suc}
 
 -- the last writeset raises an era before the others do
@@ -67,21 +67,69 @@ module _ (image : List (List ℕ)) where
   key_of_era : (era : ℕ) → era < 4294967296 → era_of_key era ≡ era
   key_of_era era fits = omega arith
 
-  pub has_rows : (fields : EraFields) (archived sets : List (ℕ × Writeset)) (start rows : List Row) → fields.era < 4294967296 → archived ≡ sets_below image fields.writesets_root → sets ≡ sets_of archived fields → start ≡ []
-      → HasSets image fields.blocks sets start rows → HasRows image fields rows
-  has_rows fields archived sets start rows fits is sets_is none has = record {
-    each = λ b x within.
-        has.each b x within
-        ∙ (rw (none, sets_is) refl
-        ∙ (one b x ∙ ap (λ (items : List (ℕ × Writeset)). max (with_sets image items b x) (cond (is_current image fields b) fields.era 0)) is));
+  -- writesets of earlier eras raise none from this era on
+  low_if : (t : Bool) (key low : ℕ) → key ≤ low → cond t key 0 ≤ low
+  low_if true key low less = less
+  low_if false key low less = omega arith
+
+  fewer_sets : (least : ℕ) (items : List (ℕ × Writeset)) (b x : ℕ) → from_era least (with_sets image (filter (is_set_from least) items) b x) ≡ from_era least (with_sets image items b x)
+  fewer_sets least [] b x = refl
+  fewer_sets least (item ∷ items) b x =
+      let era = set_era image b item in
+      elim (cases_lt (era_of_key item.0) least) [
+        | inl earlier ↦
+            let low : era ≤ least - 1 = low_if (holds item.1.bits (words_below 8 image item.1.root) b) (era_of_key item.0) (least - 1) (omega arith) in
+            let rest = fewer_sets least items b x in
+            let raised : with_sets image items b (max x era) ≡ max (with_sets image items b x) era = sym (fold_max (map (set_era image b) items) x era) in
+            rw (lt-ltb (era_of_key item.0) least earlier) (rest ∙ raised_late least (with_sets image items b x) (with_sets image items b (max x era)) era low raised)
+        | inr from ↦ rw (le-ltb (era_of_key item.0) least from) (fewer_sets least items b (max x era))
+      ]
+    where
+      raised_late : (least y z e : ℕ) → e ≤ least - 1 → z ≡ max y e → from_era least y ≡ from_era least z
+      raised_late least y z e low is = omega arith
+
+  pub has_rows : (least : ℕ) (fields : EraFields) (archived sets : List (ℕ × Writeset)) (start rows : List Row) → fields.era < 4294967296 → archived ≡ filter (is_set_from least) (sets_below image fields.writesets_root)
+      → sets ≡ sets_of least archived fields → start ≡ [] → HasSets image fields.blocks sets start rows → HasRows image fields least rows
+  has_rows least fields archived sets start rows fits is sets_is none has = record {
+    each = λ b x within. ap (from_era least) (has.each b x within ∙ rw (none, sets_is) refl) ∙ one b x;
   }
     where
-      one : (b x : ℕ) → with_sets image (sets_of archived fields) b x ≡ max (with_sets image archived b x) (cond (is_current image fields b) fields.era 0)
+      all : List (ℕ × Writeset)
+      all = sets_below image fields.writesets_root
+
+      current : ℕ × Writeset
+      current = (fields.era, record { bits = fields.current_bits; root = fields.current_root })
+
+      here : ℕ → Bool
+      here b = holds fields.current_bits (words_below 8 image fields.current_root) b
+
+      fewer : (b x : ℕ) → from_era least (with_sets image archived b x) ≡ from_era least (with_sets image all b x)
+      fewer b x = ap (λ (items : List (ℕ × Writeset)). from_era least (with_sets image items b x)) is ∙ fewer_sets least all b x
+
+      with_none : (y z : ℕ) → from_era least y ≡ from_era least z → from_era least y ≡ from_era least (max z 0)
+      with_none y z same = omega arith
+
+      with_low : (y z e : ℕ) → e ≤ least - 1 → from_era least y ≡ from_era least z → from_era least y ≡ from_era least (max z e)
+      with_low y z e low same = omega arith
+
+      with_both : (y z e : ℕ) → from_era least y ≡ from_era least z → from_era least (max y e) ≡ from_era least (max z e)
+      with_both y z e same = omega arith
+
+      with_current : (b x : ℕ) → with_sets image (archived ++ current ∷ []) b x ≡ max (with_sets image archived b x) (cond (here b) fields.era 0)
+      with_current b x =
+          with_last archived current b x
+          ∙ (sym (fold_max (map (set_era image b) archived) x (set_era image b current))
+          ∙ ap (λ (e : ℕ). max (with_sets image archived b x) (cond (here b) e 0)) (key_of_era fields.era fits))
+
+      one : (b x : ℕ) → from_era least (with_sets image (sets_of least archived fields) b x) ≡ from_era least (max (with_sets image all b x) (cond (is_current image fields b) fields.era 0))
       one b x = elim (cases_eq fields.current_root 0) [
-        | inl zeroed ↦ rw (eq-eqb fields.current_root 0 zeroed) (omega arith)
-        | inr other ↦
-            rw (ne_eqb fields.current_root 0 other)
-            (with_last archived (fields.era, record { bits = fields.current_bits; root = fields.current_root }) b x
-            ∙ (sym (fold_max (map (set_era image b) archived) x (set_era image b (fields.era, record { bits = fields.current_bits; root = fields.current_root })))
-            ∙ ap (λ (e : ℕ). max (with_sets image archived b x) (cond (holds fields.current_bits (words_below 8 image fields.current_root) b) e 0)) (key_of_era fields.era fits)))
+        | inl zeroed ↦ rw (eq-eqb fields.current_root 0 zeroed) (with_none (with_sets image archived b x) (with_sets image all b x) (fewer b x))
+        | inr other ↦ elim (cases_lt fields.era least) [
+          | inl earlier ↦
+              rw (ne_eqb fields.current_root 0 other, lt-ltb fields.era least earlier)
+              (with_low (with_sets image archived b x) (with_sets image all b x) (cond (here b) fields.era 0) (low_if (here b) fields.era (least - 1) (omega arith)) (fewer b x))
+          | inr from ↦
+              rw (ne_eqb fields.current_root 0 other, le-ltb fields.era least from)
+              (ap (from_era least) (with_current b x) ∙ with_both (with_sets image archived b x) (with_sets image all b x) (cond (here b) fields.era 0) (fewer b x))
+        ]
       ]

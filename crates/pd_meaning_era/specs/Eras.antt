@@ -1,6 +1,6 @@
 -- The era of each block, by what cursors give of the bytes of an image.
 -- Eras that are raised where a writeset holds their blocks.
-use Rattle.std.specs.Prelude.{◌≡◌, ℕ, ◌-◌, ◌/◌, ◌%◌, ◌<◌, ◌≤◌, ◌==◌, ◌&&◌, not, nat_lt, max, Bool, true, if◌then◌else◌, List, length, slice_index, ◌^◌, min, map, fold, drop}
+use Rattle.std.specs.Prelude.{◌≡◌, ℕ, ◌-◌, ◌/◌, ◌%◌, ◌<◌, ◌≤◌, ◌==◌, ◌&&◌, not, nat_lt, max, Bool, true, if◌then◌else◌, List, length, slice_index, ◌^◌, min, map, fold}
 use Rattle.std.specs.Int.{bit_at}
 use Rattle.std.specs.List.{range_with_len}
 use Rattle.pd_kinds.specs.Meaning.{is_bit_set, era_meaning}
@@ -34,11 +34,6 @@ holds_in_word bits number word b = nat_lt b bits && ((b / 64 == number) && (bit_
 -- the eras of these blocks are at least this one
 pub record AreAtLeast (era : ℕ) (held : ℕ → Bool) (eras : List ℕ) : Type 0 where
   pub each : (b : ℕ) → b < length eras → held b ≡ true → era ≤ slice_index eras b
-
--- the first of what was left was taken, and 0 where nothing was
-pub record TakesWords (taken : ℕ) (old new : List ℕ) : Type 0 where
-  pub first : taken ≡ slice_index old 0
-  pub rest : new ≡ drop 1 old
 
 -- the words of this size of the array with this root
 abbrev pub words_below : ℕ → List (List ℕ) → ℕ → List ℕ
@@ -75,6 +70,10 @@ era_below image fields b =
 
 unfoldable pub eras_below : List (List ℕ) → EraFields → List ℕ
 eras_below image fields = map (era_below image fields) (range_with_len 0 fields.blocks)
+
+-- an era from this one on: of the earlier ones all are as good as the last
+abbrev pub from_era : ℕ → ℕ → ℕ
+from_era least era = max (least - 1) era
 
 -- the roots of a superblock that are read are below a number of blocks
 pub record RootsBelow (blocks : ℕ) (fields : EraFields) : Type 0 where

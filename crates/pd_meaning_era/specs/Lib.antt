@@ -1,3 +1,4 @@
 pub mod Eras
 pub mod Notes
+pub mod EraWords
 pub mod Parts

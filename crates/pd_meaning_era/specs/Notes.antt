@@ -3,7 +3,7 @@
 -- leads on at most.
 -- What rows raise: each is an array block at one place in the array of a writeset.
 -- What comes of the blocks on the way to the array blocks.
-use Rattle.std.specs.Prelude.{◌≡◌, ℕ, zero, suc, ◌+◌, ◌*◌, ◌≤◌, ◌⊎◌, List, length, map, ◌<◌, ◌==◌, max, Bool, true, if◌then◌else◌, [], ◌∷◌, ◌++◌, fold, slice_index, ◌-◌, ◌^◌, nat_lt, slice_index_or}
+use Rattle.std.specs.Prelude.{◌≡◌, ℕ, zero, suc, ◌+◌, ◌*◌, ◌≤◌, ◌⊎◌, List, length, map, ◌<◌, ◌==◌, max, not, Bool, true, if◌then◌else◌, [], ◌∷◌, ◌++◌, fold, slice_index, ◌-◌, ◌^◌, nat_lt, slice_index_or}
 use Rattle.std.specs.List.{flat_map}
 use Rattle.pd_kinds.specs.Graph.{block_at}
 use Rattle.pd_kinds.specs.EraFormat.{EraFields}
@@ -13,7 +13,7 @@ use Rattle.pd_graph.specs.Marks.{values_of}
 use Rattle.pd_tree.specs.Below.{items_below, items_from}
 use Rattle.pd_tree.specs.Cursor.{root_of, words_from, words_of_items}
 use Rattle.pd_meaning_era.specs.declared.notes.Row.{Row}
-use Rattle.pd_meaning_era.specs.Eras.{is_current, sets_below, with_sets, holds_from, raised, words_below, holds}
+use Rattle.pd_meaning_era.specs.Eras.{era_of_key, from_era, is_current, sets_below, with_sets, holds_from, raised, words_below, holds}
 use Rattle.pd_meaning_era.specs.declared.notes.ArrayNote.{ArrayNote}
 use Rattle.pd_meaning_era.specs.declared.notes.Walk.{Walk}
 use Rattle.pd_meaning_era.specs.declared.descent.Opened.{Opened}
@@ -60,15 +60,22 @@ pub record Cover (image : List (List ℕ)) (era : ℕ) (held : ℕ → Bool) (ro
 pub record HasSets (image : List (List ℕ)) (blocks : ℕ) (sets : List (ℕ × Writeset)) (old new : List Row) : Type 0 where
   pub each : (b x : ℕ) → b < blocks → with_rows image new b x ≡ with_sets image sets b (with_rows image old b x)
 
--- the archived writesets, and the current one, where there is one, beside its era
-abbrev pub sets_of : List (ℕ × Writeset) → EraFields → List (ℕ × Writeset)
-sets_of archived fields =
-    if fields.current_root == 0 then archived else archived ++ (fields.era, record { bits = fields.current_bits; root = fields.current_root }) ∷ []
+-- whether an archived writeset is of this era or a later one
+abbrev pub is_set_from : ℕ → ℕ × Writeset → Bool
+is_set_from least item = not (nat_lt (era_of_key item.0) least)
 
--- rows raise an era of a target's block just as its writesets do
-pub record HasRows (image : List (List ℕ)) (fields : EraFields) (rows : List Row) : Type 0 where
+-- the archived writesets, and the current one, where there is one of this era or a later one, beside its era
+abbrev pub sets_of : ℕ → List (ℕ × Writeset) → EraFields → List (ℕ × Writeset)
+sets_of least archived fields =
+    if fields.current_root == 0 then archived
+    else if nat_lt fields.era least then archived
+    else archived ++ (fields.era, record { bits = fields.current_bits; root = fields.current_root }) ∷ []
+
+-- from this era on, rows raise an era of a target's block just as its writesets do
+pub record HasRows (image : List (List ℕ)) (fields : EraFields) (least : ℕ) (rows : List Row) : Type 0 where
   pub each : (b x : ℕ) → b < fields.blocks
-      → with_rows image rows b x ≡ max (with_sets image (sets_below image fields.writesets_root) b x) (if is_current image fields b then fields.era else 0)
+      → from_era least (with_rows image rows b x)
+      ≡ from_era least (max (with_sets image (sets_below image fields.writesets_root) b x) (if is_current image fields b then fields.era else 0))
 
 -- the eras of a part of the blocks, whose first word has this number, were raised by rows
 pub record RaisesRows (image : List (List ℕ)) (base : ℕ) (rows : List Row) (old new : List ℕ) : Type 0 where

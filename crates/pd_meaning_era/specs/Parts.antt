@@ -1,8 +1,8 @@
 -- The eras that are left, part by part.
 use Rattle.std.specs.Prelude.{◌≡◌, ℕ, ◌+◌, ◌*◌, ◌-◌, ◌<◌, Bool, true, false, List, [], ◌++◌, length, map, slice_index}
 use Rattle.std.specs.List.{range_with_len}
-use Rattle.pd_tree.specs.Cursor.{array_words}
 use Rattle.pd_meaning_era.specs.declared.eras.Eras.{Eras}
+use Rattle.pd_meaning_era.specs.EraWords.{era_words}
 use Rattle.pd_meaning_era.specs.Notes.{with_rows}
 
 -- the number of the blocks that are left, and their eras
@@ -11,7 +11,7 @@ blocks_left eras = eras.blocks - 64 * eras.next
 
 unfoldable pub eras_left : List (List ℕ) → Eras → List ℕ
 eras_left image eras =
-    map (λ b. with_rows image eras.rows.items b (slice_index (array_words image eras.words) (b - 64 * eras.next))) (range_with_len (64 * eras.next) (blocks_left eras))
+    map (λ b. with_rows image eras.rows.items b (slice_index (era_words image eras.words) (b - 64 * eras.next))) (range_with_len (64 * eras.next) (blocks_left eras))
 
 -- a part was taken, which what is left begins with, and none where nothing was left
 pub record IsPart (image : List (List ℕ)) (old new : Eras) : Type 0 where

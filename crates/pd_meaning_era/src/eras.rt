@@ -1,6 +1,6 @@
 //! The era of each block, in one list (`era_dump`, `era_invalidate`).
 
-ghost use Rattle.std.specs.Prelude.{◌≡◌, [], length, IfOk, IfSome, ◌^◌, ◌<◌, drop, map, slice_index, OnOk, ℕ, List};
+ghost use Rattle.std.specs.Prelude.{◌≡◌, [], length, IfOk, IfSome, drop, map, slice_index, OnOk, ℕ, List};
 ghost use Rattle.std.specs.List.{range_with_len};
 ghost use Rattle.pd_kinds.specs.declared.kind.Kind.TheVariants.{Era};
 ghost use Rattle.pd_kinds.specs.declared.kind.Stage.TheVariants.{Whole};
@@ -9,20 +9,18 @@ ghost use Rattle.pd_kinds.specs.EraFormat.{era_fields};
 ghost use Rattle.pd_kinds.specs.Graph.{block_at};
 ghost use Rattle.pd_kinds.specs.Meaning.{era_meaning};
 ghost use Rattle.pd_kinds.specs.Stages.{faults};
-ghost use Rattle.pd_array.specs.declared.array.Word.TheVariants.{Four};
-ghost use Rattle.pd_array.specs.Word.{size_of};
 ghost use Rattle.pd_image.specs.Device.{IsAttached, OnlyReads};
-ghost use Rattle.pd_tree.specs.Cursor.{array_words};
-ghost use Rattle.pd_meaning_era.specs.Eras.{eras_below, TakesWords, GivesEras};
+ghost use Rattle.pd_meaning_era.specs.EraWords.{era_words};
+ghost use Rattle.pd_meaning_era.specs.Eras.{eras_below, GivesEras};
 
+use crate::era_words::{EraWords, take_words};
 use crate::notes::Row;
 use crate::part::raise_part;
 use crate::rows::rows_of;
-use pd_array::Word;
 use pd_image::Device;
 use pd_kinds::{CheckFault, EraSuper, trees_are_in_order};
 use pd_tree::{
-    ArrayCursor, array_cursors_give_words, cursors_give_entries, entries_lead_to_reached_pairs,
+    array_cursors_give_words, cursors_give_entries, entries_lead_to_reached_pairs,
     formats_have_trees, reached_trees_are_sound, superblocks_lead_to_reached_roots,
 };
 use pd_value::Writeset;
@@ -55,44 +53,27 @@ pub fn era_list<D: Device>(alloc: Global, dev: &mut D, s: &EraSuper) -> Result<V
     Ok(eras)
 }
 
-// The words of arrays, one after another (`era_dump`, `era_invalidate`).
-
-/// The next word; after the last one it is 0.
-pub(crate) fn take_word<D: Device>(words: &mut ArrayCursor, dev: &mut D) -> Result<u64, CheckFault>
-    requires attached { IsAttached (D.state dev.old) }
-    ensures taken { IfOk result (λ word. IfSome (D.state dev.old).held
-        (λ image. TakesWords word (array_words image words.old) (array_words image words.new))) }
-    ensures fits { IfOk result (λ word. word < 256 ^ size_of words.old.word) }
-    ensures same_size { words.new.word ≡ words.old.word }
-    ensures kept { OnlyReads (D.state dev.old) (D.state dev.new) }
-    ensures faults { CountsCheckFault result (D.state dev.old).faults (D.state dev.new).faults }
-{
-    Ok(words.next(dev)?.unwrap_or(0))
-}
+// The words of a part (`era_dump`, `era_invalidate`).
 
 /// Makes the next words, so many, the part; those past the array's end are 0.
 pub(crate) fn fill_part<D: Device>(
-    words: &mut ArrayCursor,
+    words: &mut EraWords,
     dev: &mut D,
     part: &mut Vec<u32>,
     count: u32,
 ) -> Result<(), CheckFault>
     requires attached { IsAttached (D.state dev.old) }
-    requires size { words.old.word ≡ Four }
     ensures words { OnOk result (IfSome (D.state dev.old).held
-        (λ image. part.new.items ≡ map (slice_index (array_words image words.old)) (range_with_len 0 count))) }
+        (λ image. part.new.items ≡ map (slice_index (era_words image words.old)) (range_with_len 0 count))) }
     ensures left { OnOk result (IfSome (D.state dev.old).held
-        (λ image. array_words image words.new ≡ drop count (array_words image words.old))) }
+        (λ image. era_words image words.new ≡ drop count (era_words image words.old))) }
     ensures number { OnOk result (length part.new.items ≡ count) }
-    ensures size { words.new.word ≡ Four }
     ensures kept { OnlyReads (D.state dev.old) (D.state dev.new) }
     ensures faults { CountsCheckFault result (D.state dev.old).faults (D.state dev.new).faults }
 {
     part.clear();
-    for i in 0..count {
-        let word = take_word(words, dev)?;
-        part.push(word as u32)?;
-    }
+    take_words(words, dev, part, count as usize)?;
+    part.resize(count as usize, 0)?;
     Ok(())
 }
 
@@ -114,19 +95,18 @@ pub struct Eras {
     blocks: u32,
     /// The number of the next part's first word of 64 bits: 64 blocks a word.
     next: u32,
-    words: ArrayCursor,
+    words: EraWords,
     rows: Vec<Row>,
     part: Vec<u32>,
     /// A bit for each block of the part.
     taken: Vec<u64>,
-    ghost size: { words.word ≡ Four },
 }
 
 impl Eras {
-    ghost use Rattle.std.specs.Prelude.{◌≡◌, IfOk, IfSome};
+    ghost use Rattle.std.specs.Prelude.{◌≡◌, map, IfOk, IfSome};
     ghost use Rattle.pd_kinds.specs.CheckFault.{CountsCheckFault};
     ghost use Rattle.pd_image.specs.Device.{IsAttached, OnlyReads};
-    ghost use Rattle.pd_meaning_era.specs.Eras.{eras_below};
+    ghost use Rattle.pd_meaning_era.specs.Eras.{eras_below, from_era};
     ghost use Rattle.pd_meaning_era.specs.Parts.{CountsPart, TakesPart, blocks_left, eras_left};
 
     /// The eras of the target with this superblock, before its first block.
@@ -137,7 +117,6 @@ impl Eras {
     /// an archived writeset. A root or a block outside of the device has no words.
     ///
     /// Fails with `CheckFault::Memory` where memory wasn't found, and with `CheckFault::Device` where a read failed.
-    #[tactic(auto, unfolding(crate::specs::Parts::blocks_left))]
     pub fn start<D: Device>(alloc: Global, dev: &mut D, s: &EraSuper) -> Result<Eras, CheckFault>
         requires attached { IsAttached (D.state dev.old) }
         ensures left { IfOk result (λ eras. IfSome (D.state dev.old).held (λ image. eras_left image eras ≡ eras_below image s.now)) }
@@ -145,8 +124,30 @@ impl Eras {
         ensures kept { OnlyReads (D.state dev.old) (D.state dev.new) }
         ensures faults { CountsCheckFault result (D.state dev.old).faults (D.state dev.new).faults }
     {
-        let rows = rows_of(alloc, dev, s)?;
-        let words = ArrayCursor::start(alloc, s.array_root, Word::Four)?;
+        let eras = Eras::since(alloc, dev, s, 0)?;
+        Ok(eras)
+    }
+
+    /// The eras of the target with this superblock from this era on, before its first block. Of another era it is said only that
+    /// it is an earlier one.
+    ///
+    /// It reads as `start` does, but for the trees of writesets of earlier eras. It fails as that does.
+    #[tactic(auto, unfolding(crate::specs::Parts::blocks_left))]
+    pub fn since<D: Device>(
+        alloc: Global,
+        dev: &mut D,
+        s: &EraSuper,
+        least: u32,
+    ) -> Result<Eras, CheckFault>
+        requires attached { IsAttached (D.state dev.old) }
+        ensures left { IfOk result (λ eras. IfSome (D.state dev.old).held
+            (λ image. map (from_era least) (eras_left image eras) ≡ map (from_era least) (eras_below image s.now))) }
+        ensures number { IfOk result (λ eras. blocks_left eras ≡ s.now.blocks) }
+        ensures kept { OnlyReads (D.state dev.old) (D.state dev.new) }
+        ensures faults { CountsCheckFault result (D.state dev.old).faults (D.state dev.new).faults }
+    {
+        let rows = rows_of(alloc, dev, s, least)?;
+        let words = EraWords::start(alloc, s.array_root)?;
         Ok(Eras {
             blocks: s.blocks,
             next: 0,

@@ -7,6 +7,7 @@
 #![tactic(auto)]
 
 mod descent;
+mod era_words;
 mod eras;
 mod notes;
 mod part;

@@ -1,10 +1,10 @@
 -- Runs as bytes, one behind the other.
 -- Differences of numbers below 2^64, modulo 2^64.
 -- Numbers as bytes: seven bits in each, the least first. The eighth bit is set where more follow.
--- A run as bytes: four numbers that tell it from the run before.
+-- A run as bytes: four numbers that tell it from the run before, of which a single block right behind that one needs two at most.
 -- Runs as bytes in chunks: each run stands whole in one, and a chunk is done where a further run might not fit.
 -- What is left of a list of runs behind a place in it.
-use Rattle.std.specs.Prelude.{ℕ, ◌+◌, ◌-◌, ◌*◌, ◌/◌, ◌%◌, ◌^◌, ◌==◌, nat_lt, if◌then◌else◌, ◌≡◌, zero, suc, List, [], ◌∷◌, ◌++◌, Option, Some, None, ◌<◌, length, ◌≤◌, Bool, drop, slice_index_or}
+use Rattle.std.specs.Prelude.{ℕ, ◌+◌, ◌-◌, ◌*◌, ◌/◌, ◌%◌, ◌^◌, ◌==◌, nat_lt, if◌then◌else◌, ◌≡◌, zero, suc, List, [], ◌∷◌, ◌++◌, Option, Some, None, ◌<◌, length, ◌≤◌, Bool, drop, slice_index_or, ◌&&◌}
 use Rattle.std.specs.Option.{option_and_then}
 use Rattle.std.specs.List.{AllByRecursion}
 use Rattle.pd_meaning_thin.specs.declared.joined.Run.{Run}
@@ -71,14 +71,32 @@ infixl 10 ◌>>=◌
 abbrev pub ◌>>=◌ : {A B : Type 0} → Option A → (A → Option B) → Option B
 o >>= f = option_and_then f o
 
+-- whether a run is a single block right behind the one before, whose step leaves two bits of a word free
+unfoldable pub is_single : ℕ → ℕ → ℕ → Bool
+is_single gap step length = (gap == 0) && ((length == 1) && nat_lt step (2 ^ 62))
+
+-- the bytes of such a run: four times its step and 1, or and 3 where the change of the time follows
+unfoldable pub packed_single : ℕ → ℕ → List ℕ
+packed_single step change =
+    if change == 0 then packed_number (step * 4 + 1) else packed_number (step * 4 + 3) ++ packed_number change
+
+-- and those of any other: twice the change of the time, the gap, the step and the length
+unfoldable pub packed_other : ℕ → ℕ → ℕ → ℕ → List ℕ
+packed_other gap step length change =
+    packed_number (change * 2) ++ (packed_number gap ++ (packed_number step ++ packed_number length))
+
+unfoldable pub packed_numbers : ℕ → ℕ → ℕ → ℕ → List ℕ
+packed_numbers gap step length change =
+    if is_single gap step length then packed_single step change else packed_other gap step length change
+
 -- how far the run begins behind the end of the one before, its target's step from there, its length, and the change of
 -- the time
 unfoldable pub packed_run : Run → Run → List ℕ
 packed_run before run =
-    packed_number (distance (moved before.virt before.length) run.virt)
-    ++ (packed_number (folded (distance (moved before.target before.length) run.target))
-    ++ (packed_number run.length
-    ++ packed_number (folded (distance before.time run.time))))
+    packed_numbers (distance (moved before.virt before.length) run.virt)
+    (folded (distance (moved before.target before.length) run.target))
+    run.length
+    (folded (distance before.time run.time))
 
 -- the run that these four numbers tell
 unfoldable pub placed : Run → ℕ → ℕ → ℕ → ℕ → Run
@@ -89,14 +107,35 @@ placed before gap step length change = record {
   time = moved before.time (unfolded change) % 2 ^ 32;
 }
 
--- the run that the bytes begin with, behind that one, and the bytes behind it; none where they end within it
-unfoldable pub run_at : Run → List ℕ → Option (Run × List ℕ)
-run_at before bytes = do
+-- the single block with this step whose change of the time comes next, and the bytes behind it
+abbrev pub changed_at : Run → ℕ → Option (ℕ × List ℕ) → Option (Run × List ℕ)
+changed_at before step None = None
+changed_at before step (Some change) = Some (placed before 0 step 1 change.0, change.1)
+
+-- the single block whose first number this is, and the bytes behind it
+unfoldable pub single_at : Run → ℕ → List ℕ → Option (Run × List ℕ)
+single_at before first bytes =
+    if first % 4 == 1 then Some (placed before 0 (first / 4) 1 0, bytes) else changed_at before (first / 4) (number_at bytes)
+
+-- any other run with this change of the time, whose other numbers the bytes begin with, and the bytes behind it
+unfoldable pub other_at : Run → ℕ → List ℕ → Option (Run × List ℕ)
+other_at before change bytes = do
   gap ← number_at bytes
   step ← number_at gap.1
   length ← number_at step.1
-  change ← number_at length.1
-  Some (placed before gap.0 step.0 length.0 change.0, change.1)
+  Some (placed before gap.0 step.0 length.0 change, length.1)
+
+-- the run whose first number this is
+unfoldable pub run_of_first : Run → ℕ → List ℕ → Option (Run × List ℕ)
+run_of_first before first bytes = if first % 2 == 1 then single_at before first bytes else other_at before (first / 2) bytes
+
+abbrev pub run_with_first : Run → Option (ℕ × List ℕ) → Option (Run × List ℕ)
+run_with_first before None = None
+run_with_first before (Some first) = run_of_first before first.0 first.1
+
+-- the run that the bytes begin with, behind that one, and the bytes behind it; none where they end within it
+unfoldable pub run_at : Run → List ℕ → Option (Run × List ℕ)
+run_at before bytes = run_with_first before (number_at bytes)
 
 -- what stands for the run before the first one
 abbrev pub no_run : Run

@@ -93,6 +93,13 @@ impl Chunks {
         Ok(())
     }
 
+    /// Gives back the room behind the open chunk's bytes.
+    pub(crate) fn trim(&mut self)
+        ensures { self.new ≡ self.old }
+    {
+        self.tail.shrink_to_fit();
+    }
+
     /// How many chunks are done.
     pub(crate) fn done(&self) -> usize
         ensures { result ≡ length self.now.full }

@@ -16,8 +16,9 @@ const NO_RUN: Run = Run {
     time: 0,
 };
 
-/// Runs of mappings, held packed: 4 bytes a run where each begins close behind the one before, and at most 35. Up to 64 KiB
-/// more are allocated: a list grows as a `Vec` to 64 KiB, and from then on by chunks of 64 KiB, which never move.
+/// Runs of mappings, held packed: 4 bytes a run where each begins close behind the one before, mostly 3 to 5 for a single block
+/// right behind the one before, and at most 35. Up to 64 KiB more are allocated: a list grows as a `Vec` to 64 KiB, and from then
+/// on by chunks of 64 KiB, which never move.
 ///
 /// Any runs come back as they were put in, in that order: they need not ascend, nor mean anything.
 #[derive(Drop)]
@@ -67,6 +68,13 @@ impl PackedRuns {
         self.last = run;
         self.count += 1;
         Ok(())
+    }
+
+    /// Gives back the room that no run takes, as far as memory for a smaller copy is found.
+    pub fn trim(&mut self)
+        ensures { self.new ≡ self.old }
+    {
+        self.chunks.trim();
     }
 
     /// How many runs there are.

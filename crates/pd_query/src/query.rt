@@ -1,5 +1,5 @@
 //! A query by what it asks, over any kind of metadata.
-//! Serves `thin_dump`, `thin_ls`, `thin_rmap`, `thin_repair --dry-run`, `cache_dump`, `era_dump`, `era_invalidate`.
+//! Serves `thin_dump`, `thin_ls`, `thin_rmap`, `thin_trim`, `thin_repair --dry-run`, `cache_dump`, `era_dump`, `era_invalidate`.
 
 ghost use Rattle.std.specs.Prelude.{◌≡◌, ℕ, List, Option, IfOk, ◌≤◌, IfSome, length};
 ghost use Rattle.pd_kinds.specs.declared.kind.Kind.{Kind};

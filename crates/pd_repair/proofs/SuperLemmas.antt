@@ -55,6 +55,11 @@ module _ (kind : Kind) where
   unfolding faults_at all_rules
   missing_some none = let e = missing_faults in cc
 
+  pub missing_faulty : (held : Option Image) (blocks : ℕ) → blocks ≡ 0 → IfSome held (λ image. blocks ≡ length image) → IfSome held (λ image. faults kind Super image ≢ [])
+  missing_faulty None blocks none honest = tt
+  missing_faulty (Some []) blocks none honest = missing_some
+  missing_faulty (Some (block ∷ rest)) blocks none honest = absurd (omega arith)
+
   -- the rules of a device without blocks are reported
   pub missing_reported : (held : Option Image) (blocks : ℕ) (rules : Rules) → blocks ≡ 0 → IfSome held (λ image. blocks ≡ length image)
       → ((rule : Rule) → has_rule rules rule ≡ same_rule Size rule)

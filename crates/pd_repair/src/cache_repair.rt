@@ -1,17 +1,22 @@
 //! What a repair kept of a cache (`cache_repair`).
 //! A repair of a cache (`cache_repair`).
 
-ghost use Rattle.std.specs.Prelude.{◌≡◌, ◌||◌, not, count_by, ◌⊎◌, ◌+◌, ◌≤◌, IfErr, IfSome};
+ghost use Rattle.std.specs.Prelude.{◌≡◌, ◌||◌, not, count_by, ◌⊎◌, ◌+◌, ◌≤◌, IfErr, IfOk, IfSome};
+ghost use Rattle.pd_laid.specs.CacheRoots.{unknown_words};
+ghost use Rattle.pd_laid.specs.SavedCache.{saved_cache_from};
 ghost use Rattle.pd_image.specs.Device.{IsAttached, IsWritable, KeepsPlace, OnlyReads};
 ghost use Rattle.pd_salvage_cache.specs.declared.saved.Row.{Row as CacheRow};
 ghost use Rattle.pd_salvage_cache.specs.SavedCache.{held_cache};
 ghost use Rattle.pd_repair.specs.CacheRepaired.{IsKept, IsCacheRepaired, IsCacheRepairedFrom};
 ghost use Rattle.pd_repair.specs.Repaired.{CountsRepair, HasSuper, IsFirst, NamesRules, ReadsFew};
+ghost use Rattle.pd_salvage.specs.Saved.{CountsSalvage};
 
 use crate::repair::RepairFault;
+use pd_answers::CacheRoots;
 use pd_image::Device;
 use pd_kinds::{Block, CacheSuper, MAX_META_BLOCKS};
 use pd_restore_kinds::{need_cache, restore_saved_cache};
+use pd_salvage::SalvageFault;
 use pd_salvage_cache::{Row, SavedCache, salvage_cache};
 use pd_supers::{cache_super_rules, missing_super, read_cache_super};
 use std::alloc::Global;
@@ -25,11 +30,13 @@ pub struct KeptCache {
     pub blocks: u32,
     /// The number of entries that a kernel takes for dirty: where the cache wasn't shut down, that is each of them.
     pub dirty: u64,
+    /// The number of cache blocks whose mapping word is lost: some of them may have been dirty.
+    pub unknown: u32,
 }
 
 /// What is kept of a cache that is held in memory.
 pub(crate) fn kept_of(saved: &SavedCache) -> KeptCache
-    ensures { IsKept result (held_cache saved.now) }
+    ensures { IsKept result (held_cache saved.now) saved.now.unknown }
 {
     let rows = saved.rows();
     let head = saved.head();
@@ -37,6 +44,7 @@ pub(crate) fn kept_of(saved: &SavedCache) -> KeptCache
         entries: rows.len() as u64,
         blocks: head.blocks,
         dirty: dirty_in(rows, head.clean),
+        unknown: saved.unknown(),
     }
 }
 
@@ -47,8 +55,28 @@ fn dirty_in(rows: &[Row], clean: bool) -> u64
     rows.iter().filter(|row| row.dirty | !clean).count() as u64
 }
 
+/// What a repair would keep of the cache with this superblock. It takes the memory of a salvage.
+///
+/// Fails with `Device` where a read failed, and with `Memory` where memory wasn't found.
+pub fn kept_by_cache_repair<D: Device>(
+    alloc: Global,
+    dev: &mut D,
+    s: &CacheSuper,
+) -> Result<KeptCache, SalvageFault>
+    requires attached { IsAttached (D.state dev.old) }
+    requires within { s.now.meta_map.blocks ≤ (D.state dev.old).blocks }
+    requires hints { (s.now.hint_size ≡ 0) ⊎ (s.now.hint_size ≡ 4) }
+    ensures told { IfOk result (λ kept. IfSome (D.state dev.old).held
+        (λ image. IsKept kept (saved_cache_from s.now image) (unknown_words s.now image))) }
+    ensures kept { OnlyReads (D.state dev.old) (D.state dev.new) }
+    ensures faults { CountsSalvage result (D.state dev.old).faults (D.state dev.new).faults }
+{
+    let saved = salvage_cache(alloc, dev, s)?;
+    Ok(kept_of(&saved))
+}
+
 /// Writes what can be saved of a cache to another device, in this version of the metadata, which is 1 or 2, or else in the
-/// input's own, and answers how much that is.
+/// input's own, and answers how much that is. It is saved from the roots that are named, and else from those of the superblock.
 ///
 /// The input is only read. The room is looked at before another block than the superblock is read. Of the output at most
 /// 4161600 blocks are used. It takes the memory of a salvage, and then that of a restore.
@@ -62,11 +90,12 @@ pub fn repair_cache<A: Device, B: Device>(
     input: &mut A,
     output: &mut B,
     version: Option<u32>,
+    named: CacheRoots,
 ) -> Result<KeptCache, RepairFault>
     requires attached { IsAttached (A.state input.old) }
     requires writable { IsWritable (B.state output.old) }
     requires known { IfSome version (λ v. (v ≡ 1) ⊎ (v ≡ 2)) }
-    ensures repaired { IsCacheRepaired version ((A.state input.old).reads
+    ensures repaired { IsCacheRepaired version named ((A.state input.old).reads
         + 1) result (A.state input.old) (A.state input.new) (B.state output.old) (B.state output.new) }
     ensures named { IfErr result NamesRules }
     ensures reads { IfErr result (λ fault. ReadsFew fault ((A.state input.old).reads + 1) (A.state input.new).reads) }
@@ -81,7 +110,7 @@ pub fn repair_cache<A: Device, B: Device>(
     }
     let mut first = Block::zeros();
     match input.read(0, &mut first) {
-        Ok(()) => repair_read(alloc, input, output, version, &first, blocks),
+        Ok(()) => repair_read(alloc, input, output, version, named, &first, blocks),
         Err(_) => Err(RepairFault::Input),
     }
 }
@@ -92,6 +121,7 @@ fn repair_read<A: Device, B: Device>(
     input: &mut A,
     output: &mut B,
     version: Option<u32>,
+    named: CacheRoots,
     first: &Block,
     blocks: u64,
 ) -> Result<KeptCache, RepairFault>
@@ -100,7 +130,7 @@ fn repair_read<A: Device, B: Device>(
     requires first { IfSome (A.state input.old).held (IsFirst blocks first.now.0) }
     requires writable { IsWritable (B.state output.old) }
     requires known { IfSome version (λ v. (v ≡ 1) ⊎ (v ≡ 2)) }
-    ensures repaired { IsCacheRepaired version (A.state input.old).reads result (A.state input.old) (A.state input.new) (B.state output.old)
+    ensures repaired { IsCacheRepaired version named (A.state input.old).reads result (A.state input.old) (A.state input.new) (B.state output.old)
         (B.state output.new) }
     ensures named { IfErr result NamesRules }
     ensures reads { IfErr result (λ fault. ReadsFew fault (A.state input.old).reads (A.state input.new).reads) }
@@ -111,7 +141,8 @@ fn repair_read<A: Device, B: Device>(
 {
     let rules = cache_super_rules(first, blocks);
     if rules.is_empty() {
-        repair_from(alloc, input, output, version, &read_cache_super(first))
+        let s = named.over(&read_cache_super(first));
+        repair_from(alloc, input, output, version, &s)
     } else {
         Err(RepairFault::NoSuper(rules))
     }

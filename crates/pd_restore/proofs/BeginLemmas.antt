@@ -151,13 +151,13 @@ pool_made pool ending old new lawful need made =
     e.made_as (shape_content (shape_of pool)) (pool_content pool) (λ _. lawful) need (λ room. refl) ending old new made
 
 -- a restore of lines that are those of a shape for which there is room
-module _ (w : ThinShape) (begun : Begun) (gives : GivesShape w begun) (need room : ℕ) (to : SourceState) (old new : DeviceState)
-    (here : room ≡ room_of old.blocks) (needs : need ≡ shape_need w room) (enough : need ≤ room) where
+module _ (w : ThinShape) (begun : Begun) (gives : GivesShape w begun) (room : ℕ) (to : SourceState) (old new : DeviceState)
+    (here : room ≡ room_of old.blocks) (enough : shape_need w room ≤ room) where
   abbrev Restores : Result (Unit {0}) RestoreFault → Type 0
   Restores result = IsRestored IsLawfulShape IsPoolTextVerdict is_pool_text_early laid_shape result (given gives.text) to old new
 
   fits : shape_need w (room_of old.blocks) ≤ room_of old.blocks
-  fits = subst (λ blocks. shape_need w blocks ≤ blocks) here (subst (λ n. n ≤ room) needs enough)
+  fits = subst (λ blocks. shape_need w blocks ≤ blocks) here enough
 
   only : (verdict : Verdict ThinShape) → IsPoolTextVerdict gives.text (room_of old.blocks) verdict → verdict ≡ accepted w
   only verdict right = gives.only (room_of old.blocks) verdict fits right

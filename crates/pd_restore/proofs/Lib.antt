@@ -15,3 +15,4 @@ pub mod ShapeParts
 pub mod ShapeTextLemmas
 pub mod SharedLines
 pub mod PlainNeedLemmas
+pub mod MostOverLemmas

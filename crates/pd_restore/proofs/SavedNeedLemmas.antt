@@ -8,7 +8,7 @@ use Rattle.std.proofs.lemmas.List.Sums.{sum_by-cons}
 use Rattle.std.proofs.lemmas.Grind.{flat_map-append}
 use Rattle.pd_kinds.specs.Meaning.{Mapping, ThinDevice}
 use Rattle.pd_grammar.specs.Need.{overflows_in, mapped_data, need_of_devices, thin_need}
-use Rattle.pd_grammar.proofs.NeedLemmas.{count_of as times}
+use Rattle.pd_grammar.proofs.NeedLemmas.{count_of as times, devices-le}
 use Rattle.pd_grammar.specs.Lawful.{AreMappings, AreDevices}
 use Rattle.pd_grammar.specs.ThinText.{HasMappings, Run, device_of_part, mappings_from, mappings_of}
 use Rattle.pd_count.specs.Counted.{Counted, count_of}
@@ -180,3 +180,13 @@ need_exact saved sound head mapped over room need same numbers thrice is fits =
   where
     below : (n m : ℕ) → n ≡ min m (2 ^ 64 - 1) → n < 2 ^ 64 - 1 → n ≡ m
     below n m is fits = omega arith
+
+-- a pool has room where it would have with more data blocks that stand three times
+pub need_fits : (saved : SavedPool) → IsSavedPool saved → (head : SavedHead) (mapped : List ℕ) (over room need : ℕ) → head ≡ saved.head
+    → mapped ≡ map (λ (d : SavedDevice). d.details.mapped) saved.devices → overflows_in (data_of_runs saved.runs) saved.head.blocks ≤ over
+    → need ≡ min (need_of_devices mapped head.blocks over room) (2 ^ 64 - 1) → need ≤ room → room ≤ 4161600 → thin_need (pool_of saved) room ≤ room
+need_fits saved sound head mapped over room need same numbers fewer is fits few =
+    let devices = map (λ (d : SavedDevice). d.details.mapped) saved.devices in
+    let most : need_of_devices mapped head.blocks over room ≡ need_of_devices devices saved.head.blocks over room = rw (same, numbers) refl in
+    let more = devices-le devices devices saved.head.blocks (overflows_in (data_of_runs saved.runs) saved.head.blocks) over room (omega arith) (omega arith) fewer in
+    omega (arith, most, more, is, fits, few, need_is saved sound room)

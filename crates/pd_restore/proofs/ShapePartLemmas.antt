@@ -1,5 +1,5 @@
 -- The data blocks, the uses and the runs of a saved shape, by its pieces and runs.
-use Rattle.std.proofs.Common.{◌≡◌, ℕ, suc, ◌+◌, ◌-◌, ◌^◌, ◌<◌, min, List, [], ◌∷◌, ◌++◌, length, map, take, drop, refl, ap, ap₂, sym, subst, ◌∙◌, arith, length-drop}
+use Rattle.std.proofs.Common.{◌≡◌, ℕ, suc, ◌+◌, ◌-◌, ◌^◌, ◌<◌, ◌≤◌, min, List, [], ◌∷◌, ◌++◌, length, map, take, drop, refl, ap, ap₂, sym, subst, ◌∙◌, arith, length-drop}
 use Rattle.std.specs.List.{AllByRecursion, flat_map, range_with_len}
 use Rattle.std.specs.Prelude.{sum_by}
 use Rattle.std.proofs.lemmas.Grind.{flat_map-append}
@@ -8,6 +8,7 @@ use Rattle.std.proofs.lemmas.List.Sums.{sum_by-cons, sum_by-take-drop}
 use Rattle.pd_kinds.specs.Meaning.{Mapping}
 use Rattle.pd_grammar.specs.Lawful.{AreDevices, AreMappings}
 use Rattle.pd_grammar.specs.Need.{overflows_in}
+use Rattle.pd_grammar.proofs.NeedLemmas.{need_tree-le}
 use Rattle.pd_grammar.proofs.ThinLaws.{data_of}
 use Rattle.pd_laid.specs.Shape.{ArePieces, ShapeDevice, device_of, piece_mappings, pool_of, shared, uses_of, uses_of_piece}
 use Rattle.pd_laid.specs.PoolText.{LeafCount, leaves_of_pieces, need_of_leaves, need_of_shared, own_mappings, shape_data, shape_need, used_often, HasPartMappings, HasPieceMappings, device_of_part, mappings_of_runs, piece_of_part}
@@ -16,7 +17,7 @@ use Rattle.pd_meaning_thin.specs.declared.joined.Run.{Run}
 use Rattle.pd_meaning_thin.specs.Runs.{spelled}
 use Rattle.pd_devices.specs.SharedGathered.{need_of_parts}
 use Rattle.pd_devices.specs.declared.growing.NeedCounts.{NeedCounts}
-use Rattle.pd_restore.specs.ShapeNeed.{IsRunIn, data_of_runs, IsUseBelow, pieces_of, trees_of_parts, uses_of_saved}
+use Rattle.pd_restore.specs.ShapeNeed.{ArePartsOf, IsRunIn, data_of_runs, IsUseBelow, pieces_of, trees_of_parts, uses_of_saved}
 use Rattle.pd_restore.proofs.SavedNeedLemmas.{IsWithin, all_append, part_data, part_within, within_all}
 use Rattle.pd_restore.proofs.ShapeNeedLemmas.{parts_need, take_front}
 use Rattle.pd_restore.proofs.ShapeTextLemmas.{leaves_have, parts_have}
@@ -233,18 +234,43 @@ counted_need h sound room =
     ∙ (ap₂ (λ (n : ℕ) (us : List ℕ). need_of_shared n (used_often us n) devices c.blocks c.over room) (sym (leaf_number_is h)) (sym uses)
     ∙ ap (λ (blocks : List ℕ). need_of_shared (length w.leaves) (used_often (flat_map uses_of w.devices) (length w.leaves)) devices c.blocks (overflows_in blocks c.blocks) room) (sym (data_is h sound)))
 
+-- numbers that are those of the shape
+same_parts : (c d : NeedCounts) (room : ℕ) → c.leaves ≡ d.leaves → c.often ≡ d.often → c.trees ≡ d.trees → c.begun ≡ d.begun → c.devices ≡ d.devices → c.blocks ≡ d.blocks → c.over ≡ d.over
+    → need_of_parts c room ≡ need_of_parts d room
+same_parts c d room leaves often trees begun devices blocks over k =
+    need_of_parts (record { leaves = leaves k; often = often k; trees = trees k; begun = begun k; devices = devices k; blocks = blocks k; over = over k }) room
+
 -- a need that is below the end of its type is the shape's
-pub need_exact : (h : HeldShape) → IsSavedShape h → (c : NeedCounts) (room need : ℕ) → c.leaves ≡ length h.leaves → c.often ≡ overflows_in (flat_map uses_of_saved h.pieces) (length h.leaves)
-    → c.trees ≡ trees_of_parts (device_parts h.devices h.pieces h.runs) → c.begun ≡ 0 → c.devices ≡ length h.devices → c.blocks ≡ h.head.blocks
-    → c.over ≡ overflows_in (data_of_runs h.leaf_runs ++ data_of_runs h.runs) h.head.blocks
+pub need_exact : (h : HeldShape) (c : NeedCounts) (over room need : ℕ) → ArePartsOf h over c → over ≡ overflows_in (data_of_runs h.leaf_runs ++ data_of_runs h.runs) h.head.blocks
     → need ≡ min (need_of_parts c room) (2 ^ 64 - 1) → need < 2 ^ 64 - 1 → need ≡ shape_need (held_shape h) room
-need_exact h sound c room need leaves often trees begun devices blocks over is fits =
-    below need (need_of_parts c room) is fits ∙ (same c (counts_of h) leaves often trees begun devices blocks over ∙ counted_need h sound room)
+need_exact h c over room need are thrice is fits =
+    below need (need_of_parts c room) is fits
+    ∙ (same_parts c (counts_of h) room are.leaves are.often are.trees are.begun are.devices are.blocks (are.thrice ∙ thrice) ∙ counted_need h are.sound room)
   where
     below : (need all : ℕ) → need ≡ min all (2 ^ 64 - 1) → need < 2 ^ 64 - 1 → need ≡ all
     below need all is fits = omega arith
 
-    same : (c d : NeedCounts) → c.leaves ≡ d.leaves → c.often ≡ d.often → c.trees ≡ d.trees → c.begun ≡ d.begun → c.devices ≡ d.devices → c.blocks ≡ d.blocks → c.over ≡ d.over
-        → need_of_parts c room ≡ need_of_parts d room
-    same c d leaves often trees begun devices blocks over k =
-        need_of_parts (record { leaves = leaves k; often = often k; trees = trees k; begun = begun k; devices = devices k; blocks = blocks k; over = over k }) room
+-- the need grows with the data blocks that stand three times
+grows : (leaves often trees begun devices blocks a b room : ℕ) → a ≤ b
+    → need_of_parts (record { leaves = leaves; often = often; trees = trees; begun = begun; devices = devices; blocks = blocks; over = a }) room
+    ≤ need_of_parts (record { leaves = leaves; often = often; trees = trees; begun = begun; devices = devices; blocks = blocks; over = b }) room
+unfolding need_of_parts
+grows leaves often trees begun devices blocks a b room fewer = omega (arith, need_tree-le 4 a b (omega arith) fewer)
+
+-- a shape has room where it would have with more of them
+pub need_fits : (h : HeldShape) (c : NeedCounts) (over room need : ℕ) → ArePartsOf h over c → overflows_in (data_of_runs h.leaf_runs ++ data_of_runs h.runs) h.head.blocks ≤ over
+    → need ≡ min (need_of_parts c room) (2 ^ 64 - 1) → need ≤ room → room ≤ 4161600 → shape_need (held_shape h) room ≤ room
+need_fits h c over room need are fewer is fits few =
+    let exact = counts_of h in
+    let most : NeedCounts = record {
+      leaves = exact.leaves;
+      often = exact.often;
+      trees = exact.trees;
+      begun = exact.begun;
+      devices = exact.devices;
+      blocks = exact.blocks;
+      over = over;
+    } in
+    let same : need_of_parts c room ≡ need_of_parts most room = same_parts c most room are.leaves are.often are.trees are.begun are.devices are.blocks are.thrice in
+    let more = grows exact.leaves exact.often exact.trees exact.begun exact.devices exact.blocks exact.over over room fewer in
+    omega (arith, same, more, is, fits, few, counted_need h are.sound room)

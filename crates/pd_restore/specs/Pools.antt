@@ -114,6 +114,12 @@ pub record CanMake (need room : ℕ) (begun : Begun) : Type 0 where
   pub gives : GivesShape shape begun
   pub needs : need ≡ shape_need shape room
 
+-- its lines are those of some shape, for which there is room
+pub record HasRoom (room : ℕ) (begun : Begun) : Type 0 where
+  pub shape : ThinShape
+  pub gives : GivesShape shape begun
+  pub fits : shape_need shape room ≤ room
+
 -- a source of which nothing is left
 abbrev pub ended_state : Ended → SourceState
 ended_state ended = record { access = if ended.attached then 1 else 0; path = None; left = Some []; faults = 0 }

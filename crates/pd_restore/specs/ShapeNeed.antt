@@ -3,19 +3,20 @@
 -- The data blocks of shared leaves, once for each use.
 use Rattle.std.specs.Prelude.{◌≡◌, ℕ, ◌+◌, ◌<◌, List, [], ◌∷◌, length, map, take, drop, sum_by, zero, suc, ◌^◌, ◌≤◌, ◌==◌, min, ◌++◌, count_by}
 use Rattle.std.specs.List.{flat_map, range_with_len}
-use Rattle.pd_grammar.specs.Need.{nodes_for}
+use Rattle.pd_grammar.specs.Need.{nodes_for, overflows_in}
 use Rattle.pd_laid.specs.Shape.{uses_of_piece}
 use Rattle.pd_laid.specs.PoolText.{own_number, PartPiece, SharedPart, piece_of_part}
 use Rattle.pd_count.specs.Counted.{Counted, count_of}
 use Rattle.pd_meaning_thin.specs.Packed.{runs_from}
 use Rattle.pd_meaning_thin.specs.declared.joined.Run.{Run}
 use Rattle.pd_devices.specs.SharedGrowth.{need_ended}
+use Rattle.pd_devices.specs.declared.growing.NeedCounts.{NeedCounts}
 use Rattle.pd_restore.specs.declared.shape_need.LeafCounts.{LeafCounts}
 use Rattle.pd_restore.specs.declared.shape_need.TreeCounts.{TreeCounts}
 use Rattle.pd_salvage.specs.declared.saved_shape.SavedPiece.{SavedPiece}
 use Rattle.pd_salvage.specs.declared.saved_shape.SavedPiece.TheVariants.{Own, Shared}
 use Rattle.pd_salvage.specs.declared.saved_shape.ShapedDevice.{ShapedDevice}
-use Rattle.pd_salvage.specs.SavedShape.{device_parts, piece_parts, runs_of_piece, runs_of_pieces}
+use Rattle.pd_salvage.specs.SavedShape.{HeldShape, IsSavedShape, device_parts, piece_parts, runs_of_piece, runs_of_pieces}
 use Rattle.pd_salvage.specs.declared.saved_shape.SavedLeaf.{SavedLeaf}
 
 -- the leaf that a piece uses
@@ -67,6 +68,17 @@ pub record CountsDevices (devices : List ShapedDevice) (pieces : List SavedPiece
   pub trees : c.trees ≡ trees_of_parts (device_parts devices pieces runs)
   pub met : c.pieces ≡ pieces_of devices
   pub taken : runs_from runs c.place ≡ drop (runs_of_pieces (take (pieces_of devices) pieces)) runs
+
+-- the need of a saved shape goes by these numbers, where so many of its data blocks stand three times or more
+pub record ArePartsOf (h : HeldShape) (over : ℕ) (c : NeedCounts) : Type 0 where
+  pub sound : IsSavedShape h
+  pub leaves : c.leaves ≡ length h.leaves
+  pub often : c.often ≡ overflows_in (flat_map uses_of_saved h.pieces) (length h.leaves)
+  pub trees : c.trees ≡ trees_of_parts (device_parts h.devices h.pieces h.runs)
+  pub begun : c.begun ≡ 0
+  pub devices : c.devices ≡ length h.devices
+  pub blocks : c.blocks ≡ h.head.blocks
+  pub thrice : c.over ≡ over
 
 -- each block was counted as often as it stands in the list, up to three times
 abbrev pub HasCountedThrice : Counted → List ℕ → Type 0

@@ -9,9 +9,9 @@ ghost use Rattle.pd_image.specs.Device.{IsWritable, KeepsPlace};
 ghost use Rattle.pd_restore.specs.Pools.{GivesShape, CountsMade, IsMadeOf, ending_of, PoolStands};
 ghost use Rattle.pd_salvage.specs.Saved.{pool_of};
 
-use crate::known::restore_known;
+use crate::known::{restore_fitting, restore_known};
 use crate::saved_lines::SavedLines;
-use crate::saved_need::need_of_saved;
+use crate::saved_need::{need_of_saved, surely_fits_saved};
 use crate::thin::{Begun, Rest};
 use pd_image::Device;
 use pd_kinds::MAX_META_BLOCKS;
@@ -23,7 +23,7 @@ use std::alloc::Global;
 /// Writes a pool that is held in memory to a device, as a restore of its text does.
 ///
 /// The room is looked at before the device is written, of which at most 4161600 blocks are used. It takes the memory of
-/// counts of the data blocks, and then that of a restore.
+/// counts of the data blocks where there may be no room, and then that of a restore.
 ///
 /// Fails with `NoRoom` where the pool needs more blocks than there are, with `Memory` where memory wasn't found, or the
 /// need isn't below 2^64 - 1, and with `Device` where the device failed. After want of room the device is as it was, and
@@ -35,6 +35,9 @@ pub fn restore_made<D: Device>(alloc: Global, saved: Salvage, dev: &mut D) -> Re
     ensures causes { CountsMade result (D.state dev.old).faults (D.state dev.new).faults }
 {
     let room = dev.blocks().min(MAX_META_BLOCKS);
+    if surely_fits_saved(alloc, &saved, room) {
+        return restore_fitting(alloc, begun_of(saved), dev, room);
+    }
     let Some(need) = need_of_saved(alloc, &saved, room) else {
         return Err(MadeFault::Memory);
     };

@@ -1,11 +1,12 @@
 //! How many blocks a saved pool needs (`thin_repair`, `thin_shrink`).
 
-ghost use Rattle.std.specs.Prelude.{◌≡◌, map, IfOk, IfSome};
+ghost use Rattle.std.specs.Prelude.{◌≡◌, ◌≤◌, true, map, IfOk, IfSome};
 ghost use Rattle.pd_grammar.specs.Need.{mapped_data, overflows_in, thin_need};
 ghost use Rattle.pd_restore.specs.ShapeNeed.{HasCountedThrice};
 ghost use Rattle.pd_salvage.specs.declared.saved.SavedDevice.{SavedDevice as Device};
 ghost use Rattle.pd_salvage.specs.Saved.{pool_of};
 
+use crate::shape_need::number_of;
 use pd_count::Counts;
 use pd_devices::need_thin;
 use pd_meaning_thin::PackedRuns;
@@ -29,6 +30,21 @@ pub fn need_of_saved(alloc: Global, saved: &Salvage, room: u64) -> Option<u64>
     };
     let need = need_thin(&mapped, blocks, over, room);
     if need < u64::MAX { Some(need) } else { None }
+}
+
+/// Whether there is room for the pool however its data blocks stand in it: no more of them can stand three times than a third
+/// of its mappings. Where that isn't sure, or memory is wanting, it says no. No data block is counted.
+pub(crate) fn surely_fits_saved(alloc: Global, saved: &Salvage, room: u64) -> bool
+    requires { room ≤ 4161600 }
+    ensures { result ≡ true → thin_need (pool_of saved.now) room ≤ room }
+{
+    let Some(mappings) = number_of(saved.runs()) else {
+        return false;
+    };
+    match mapped_of(alloc, saved.devices()) {
+        Ok(mapped) => need_thin(&mapped, saved.head().blocks, mappings / 3, room) <= room,
+        Err(_) => false,
+    }
 }
 
 /// The mapped number of each device.

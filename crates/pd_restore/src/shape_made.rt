@@ -4,9 +4,9 @@ ghost use Rattle.pd_image.specs.Device.{IsWritable, KeepsPlace};
 ghost use Rattle.pd_restore.specs.Pools.{GivesShape, CountsMade, IsShapeMadeOf, ending_of, PoolStands};
 ghost use Rattle.pd_salvage.specs.SavedShape.{held_shape};
 
-use crate::known::restore_known;
+use crate::known::{restore_fitting, restore_known};
 use crate::shape_lines::ShapeLines;
-use crate::shape_need::need_of_shape;
+use crate::shape_need::{need_of_shape, surely_fits};
 use crate::thin::{Begun, Rest};
 use pd_image::Device;
 use pd_kinds::MAX_META_BLOCKS;
@@ -18,7 +18,7 @@ use std::alloc::Global;
 /// Writes a shape that is held in memory to a device, as a restore of its text does: each shared leaf is written once.
 ///
 /// The room is looked at before the device is written, of which at most 4161600 blocks are used. It takes the memory of
-/// counts of the data blocks and of the shared leaves, and then that of a restore.
+/// counts of the shared leaves, and of the data blocks where there may be no room, and then that of a restore.
 ///
 /// Fails with `NoRoom` where the shape needs more blocks than there are, with `Memory` where memory wasn't found, or the
 /// need isn't below 2^64 - 1, and with `Device` where the device failed. After want of room the device is as it was, and
@@ -34,6 +34,9 @@ pub fn restore_shape<D: Device>(
     ensures causes { CountsMade result (D.state dev.old).faults (D.state dev.new).faults }
 {
     let room = dev.blocks().min(MAX_META_BLOCKS);
+    if surely_fits(alloc, &saved, room) {
+        return restore_fitting(alloc, begun_of_shape(saved), dev, room);
+    }
     let Some(need) = need_of_shape(alloc, &saved, room) else {
         return Err(MadeFault::Memory);
     };

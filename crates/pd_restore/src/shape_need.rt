@@ -1,6 +1,6 @@
 //! How many blocks a saved shape needs (`thin_repair`, `thin_shrink`).
 
-ghost use Rattle.std.specs.Prelude.{◌≡◌, ◌+◌, ◌≤◌, ℕ, List, ◌++◌, drop, map, take, IfOk, IfSome, OnOk};
+ghost use Rattle.std.specs.Prelude.{◌≡◌, ◌+◌, ◌≤◌, ℕ, List, ◌++◌, true, drop, length, map, take, IfOk, IfSome, OnOk};
 ghost use Rattle.std.specs.List.{AllByRecursion, flat_map};
 ghost use Rattle.pd_grammar.specs.Need.{overflows_in};
 ghost use Rattle.pd_grammar.specs.ThinText.{number_in};
@@ -9,7 +9,7 @@ ghost use Rattle.pd_meaning_thin.specs.declared.joined.Run.{Run as SavedRun};
 ghost use Rattle.pd_meaning_thin.specs.Runs.{spelled};
 ghost use Rattle.pd_meaning_thin.specs.Packed.{runs_from};
 ghost use Rattle.pd_restore.specs.ShapeNeed.{HasCountedThrice, data_of_runs, AddsDevice, AddsPiece, IsUseBelow};
-ghost use Rattle.pd_restore.specs.ShapeNeed.{CountsPieces, trees_of_parts, uses_of_saved};
+ghost use Rattle.pd_restore.specs.ShapeNeed.{ArePartsOf, CountsPieces, trees_of_parts, uses_of_saved};
 ghost use Rattle.pd_salvage.specs.SavedShape.{device_parts, held_shape};
 
 use crate::saved_lines::RunSpan;
@@ -28,19 +28,43 @@ pub fn need_of_shape(alloc: Global, saved: &SavedShape, room: u64) -> Option<u64
     ensures { IfSome result (λ need. need ≡ shape_need (held_shape saved.now) room) }
 {
     let blocks = saved.head().blocks;
-    let leaves = saved.leaves().len() as u64;
     let over = match over_of(alloc, blocks, saved.leaf_runs(), saved.runs()) {
         Ok(over) => over,
         Err(_) => return None,
     };
+    let parts = parts_of(alloc, saved, over)?;
+    let need = need_of(parts, room);
+    if need < u64::MAX { Some(need) } else { None }
+}
+
+/// Whether there is room for the shape however its data blocks stand in it: no more of them can stand three times than a
+/// third of its mappings. Where that isn't sure, or memory is wanting, it says no. No data block is counted.
+pub(crate) fn surely_fits(alloc: Global, saved: &SavedShape, room: u64) -> bool
+    requires { room ≤ 4161600 }
+    ensures { result ≡ true → shape_need (held_shape saved.now) room ≤ room }
+{
+    let Some(over) = most_over(saved.leaf_runs(), saved.runs()) else {
+        return false;
+    };
+    let Some(parts) = parts_of(alloc, saved, over) else {
+        return false;
+    };
+    need_of(parts, room) <= room
+}
+
+/// What the need of the shape goes by, where so many of its data blocks stand three times or more. `None` where memory is
+/// wanting, or a number doesn't fit its type.
+fn parts_of(alloc: Global, saved: &SavedShape, over: u64) -> Option<NeedCounts>
+    ensures { IfSome result (ArePartsOf saved.now over) }
+{
+    let blocks = saved.head().blocks;
+    let leaves = saved.leaves().len() as u64;
     let often = match often_of(alloc, leaves, saved.pieces()) {
         Ok(often) => often,
         Err(_) => return None,
     };
-    let Some(trees) = trees_of(saved.devices(), saved.pieces(), saved.runs()) else {
-        return None;
-    };
-    let counts = NeedCounts {
+    let trees = trees_of(saved.devices(), saved.pieces(), saved.runs())?;
+    Some(NeedCounts {
         leaves,
         often,
         trees,
@@ -48,9 +72,25 @@ pub fn need_of_shape(alloc: Global, saved: &SavedShape, room: u64) -> Option<u64
         devices: saved.devices().len() as u64,
         blocks,
         over,
-    };
-    let need = need_of(counts, room);
-    if need < u64::MAX { Some(need) } else { None }
+    })
+}
+
+/// How many data blocks can stand three times or more in these runs and in those, at the most.
+fn most_over(runs: &PackedRuns, others: &PackedRuns) -> Option<u64>
+    ensures { IfSome result (λ over. (blocks : ℕ)
+        → overflows_in (data_of_runs runs.now ++ data_of_runs others.now) blocks ≤ over) }
+{
+    let mappings = number_of(runs)?.checked_add(number_of(others)?)?;
+    Some(mappings / 3)
+}
+
+/// How many mappings these runs are, where their number fits.
+pub(crate) fn number_of(runs: &PackedRuns) -> Option<u64>
+    ensures { IfSome result (λ number. number ≡ length (data_of_runs runs.now)) }
+{
+    let mut place = runs.first();
+    let number = mappings_of(runs, &mut place, runs.len())?;
+    Some(number)
 }
 
 /// How many of so many data blocks stand three times or more in these runs and in those.

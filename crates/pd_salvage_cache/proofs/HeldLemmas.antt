@@ -56,7 +56,7 @@ ready_later key arrays holds = record {
 
 -- the words of a block of eight bytes each, and of four
 module _ (image : List (List ℕ)) (entries : List Entry) (a : SavedArray) (knows : Knows image entries a) (nr i : ℕ) (number : a.nr ≡ nr) where
-  eight_is : a.word ≡ Eight → i / 509 + 1 ≡ a.next → held_word a (i % 509) ≡ saved_word_of 8 nr image entries i
+  pub eight_is : a.word ≡ Eight → i / 509 + 1 ≡ a.next → held_word a (i % 509) ≡ saved_word_of 8 nr image entries i
   eight_is word next =
       let size : size_of a.word ≡ 8 = ap size_of word in
       rw size (rw (size, number) at (knows.here i (rw size next)))
@@ -100,13 +100,19 @@ of_number : (number other : ℕ) (P : SavedArray → Type 0) (o : Option SavedAr
 of_number number other P None same is = tt
 of_number number other P (Some a) same is = let here = is a refl in (here.0, here.1 ∙ same)
 
--- the row of a block whose key is held is what is saved of it
+-- the mapping word of a block whose key is held is what is saved of it
+pub word_saved : (image : List (List ℕ)) (fields : CacheFields) (arrays : Arrays) (key i : ℕ) → KnowsCache image fields arrays → IsOfCache fields arrays → HoldsKey key arrays → i / 509 ≡ key
+    → held_word arrays.words (i % 509) ≡ saved_word 8 fields.meta_map.blocks image fields.mapping_root i
+word_saved image fields arrays key i knows of holds at =
+    let nr = fields.meta_map.blocks in
+    eight_is image (salvaged_entries 8 nr image fields.mapping_root) arrays.words knows.words nr i (arrays.words_are.1 ∙ of.number) arrays.words_are.0 (omega (arith, at, holds.words))
+
+-- its row is so
 pub row_saved : (image : List (List ℕ)) (fields : CacheFields) (arrays : Arrays) (key i : ℕ) → KnowsCache image fields arrays → IsOfCache fields arrays → HoldsKey key arrays → i / 509 ≡ key
     → option_map entry (row_held arrays i) ≡ saved_entry fields image i
 row_saved image fields arrays key i knows of holds at =
     let nr = fields.meta_map.blocks in
-    let words = eight_is image (salvaged_entries 8 nr image fields.mapping_root) arrays.words knows.words nr i (arrays.words_are.1 ∙ of.number) arrays.words_are.0 (omega (arith, at, holds.words)) in
-    rw words
+    rw (word_saved image fields arrays key i knows of holds at)
     (entry_is image fields i arrays (saved_word 8 nr image fields.mapping_root i)
     (hint_is image fields i arrays.hints of.hints knows.hints (of_number arrays.nr nr (λ (a : SavedArray). a.word ≡ Four) arrays.hints of.number arrays.hints_are) (at_next (key / 2 + 1) (i / 1018 + 1) arrays.hints (omega (arith, at)) holds.hints))
     (λ word. dirty_is image fields i arrays.bits word of.bits knows.bits (of_number arrays.nr nr (λ (a : SavedArray). a.word ≡ Eight) arrays.bits of.number arrays.bits_are) (at_next (key / 64 + 1) (i / 64 / 509 + 1) arrays.bits (omega (arith, at)) holds.bits)))

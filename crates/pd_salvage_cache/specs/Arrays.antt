@@ -1,6 +1,6 @@
 -- What is held of an array.
 -- What is held of a cache's arrays.
-use Rattle.std.specs.Prelude.{◌≡◌, ℕ, ◌+◌, ◌/◌, ◌%◌, ◌≤◌, nat_lt, if◌then◌else◌, List, map, Option, Some, None, ◌==◌, ◌&&◌, Bool, not, IfSome, is_some}
+use Rattle.std.specs.Prelude.{◌≡◌, ℕ, ◌+◌, ◌/◌, ◌%◌, ◌≤◌, nat_lt, if◌then◌else◌, List, map, Option, Some, None, ◌==◌, ◌&&◌, Bool, not, IfSome, is_none, is_some}
 use Rattle.std.specs.Option.{ForSome, unwrap_or}
 use Rattle.pd_kinds.specs.Array.{max_words, word_at}
 use Rattle.pd_kinds.specs.Node.{Entry}
@@ -68,6 +68,10 @@ row_of arrays block (Some word) = if is_valid_word word then Some (row_with arra
 
 abbrev pub row_held : Arrays → ℕ → Option Row
 row_held arrays block = row_of arrays block (held_word arrays.words (block % 509))
+
+-- whether the mapping word of such a block is lost
+abbrev pub is_lost : Arrays → ℕ → Bool
+is_lost arrays block = is_none (held_word arrays.words (block % 509))
 
 -- the blocks of an array with this root are known, where there is one
 abbrev pub KnowsSome : List (List ℕ) → ℕ → ℕ → Option SavedArray → Type 0

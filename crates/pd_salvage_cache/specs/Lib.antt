@@ -2,3 +2,4 @@ pub mod Arrays
 pub mod SavedCache
 pub mod Places
 pub mod Sound
+pub mod Fuller

@@ -64,10 +64,11 @@ cache_meaning c rows = record {
   entries = map entry rows;
 }
 
--- what is held: the head, and a row for each entry
+-- what is held: the head, a row for each entry, and the number of cache blocks whose mapping word is lost
 pub record HeldCache : Type 0 where
   pub head : CacheHead
   pub rows : List Row
+  pub unknown : ℕ
 
 -- the cache that is held
 abbrev pub held_cache : HeldCache → CacheMeaning

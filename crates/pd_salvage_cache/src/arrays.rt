@@ -26,13 +26,13 @@ pub(crate) struct Arrays {
 }
 
 impl Arrays {
-    ghost use Rattle.std.specs.Prelude.{◌≡◌, ℕ, ◌-◌, ◌*◌, ◌<◌, ◌≤◌, ◌++◌, [], List, Some, IfOk, IfSome, OnOk, min};
+    ghost use Rattle.std.specs.Prelude.{◌≡◌, ℕ, ◌-◌, ◌*◌, ◌<◌, ◌≤◌, ◌++◌, [], List, Some, IfOk, IfSome, OnOk, count_by, min};
     ghost use Rattle.std.specs.List.{AllByRecursion, cons_option, filter_map, range_with_len};
     ghost use Rattle.pd_kinds.specs.CacheFormat.{CacheFields};
     ghost use Rattle.pd_kinds.specs.Objects.{CountsFault};
     ghost use Rattle.pd_image.specs.Device.{IsAttached, OnlyReads};
     ghost use Rattle.pd_salvage_cache.specs.SavedCache.{FitsRow};
-    ghost use Rattle.pd_salvage_cache.specs.Arrays.{HoldsKey, IsOfCache, IsReadyFor, KnowsCache, row_held, row_of, row_with};
+    ghost use Rattle.pd_salvage_cache.specs.Arrays.{HoldsKey, IsOfCache, IsReadyFor, KnowsCache, is_lost, row_held, row_of, row_with};
 
     /// Those of the cache with this superblock. No block is held.
     pub(crate) fn start(alloc: Global, s: &CacheSuper) -> Result<Arrays, AllocError>
@@ -86,6 +86,17 @@ impl Arrays {
             }
         }
         Ok(())
+    }
+
+    /// Of how many cache blocks below `end` of the key that is held the mapping word is lost.
+    pub(crate) fn lost(&self, key: u32, end: u32) -> u32
+        requires { 509 * key < end }
+        ensures lost { result ≡ count_by (is_lost self.now) (range_with_len (509 * key) (min 509 (end - 509 * key))) }
+        ensures few { result ≤ min 509 (end - 509 * key) }
+    {
+        let number = (end - 509 * key).min(509);
+        let known = self.words.count().min(number as usize);
+        number - known as u32
     }
 
     /// Adds the row of a cache block whose key is held, where this word is valid.

@@ -7,6 +7,7 @@ ghost use Rattle.std.specs.BTreeSet.{contains};
 ghost use Rattle.std.specs.Ordering.{nat_cmp};
 ghost use Rattle.pd_kinds.specs.CacheFormat.{CacheFields};
 ghost use Rattle.pd_kinds.specs.Whole.{has_repeat as has_repeat_in};
+ghost use Rattle.pd_laid.specs.CacheRoots.{unknown_words};
 ghost use Rattle.pd_laid.specs.SavedCache.{found_entries};
 ghost use Rattle.pd_image.specs.Device.{IsAttached, OnlyReads};
 ghost use Rattle.pd_meaning_cache.specs.OriginSet.{AreAdded, others_number, others_room};
@@ -26,25 +27,29 @@ use std::collections::BTreeSet;
 /// How many cache blocks have their words in one block of the mapping array.
 const WORDS: u32 = 509;
 
-/// The entries of all cache blocks that are saved, by ascending cache block.
+/// The entries of all cache blocks that are saved, by ascending cache block, and the number of those whose mapping word is
+/// lost.
 pub(crate) fn found_rows<D: Device>(
     alloc: Global,
     dev: &mut D,
     s: &CacheSuper,
-) -> Result<Vec<Row>, SalvageFault>
+) -> Result<(Vec<Row>, u32), SalvageFault>
     requires attached { IsAttached (D.state dev.old) }
     requires within { s.now.meta_map.blocks ≤ (D.state dev.old).blocks }
-    ensures found { IfOk result (λ rows. IfSome (D.state dev.old).held (λ image. map entry rows.items ≡ found_entries s.now image)) }
-    ensures ascend { IfOk result (λ rows. DoAscend s.now.blocks s.now.hint_size 0 (map entry rows.items)) }
+    ensures found { IfOk result (λ all. IfSome (D.state dev.old).held (λ image. map entry all.0.items ≡ found_entries s.now image)) }
+    ensures unknown { IfOk result (λ all. IfSome (D.state dev.old).held (λ image. all.1 ≡ unknown_words s.now image)) }
+    ensures ascend { IfOk result (λ all. DoAscend s.now.blocks s.now.hint_size 0 (map entry all.0.items)) }
     ensures kept { OnlyReads (D.state dev.old) (D.state dev.new) }
     ensures faults { CountsSalvage result (D.state dev.old).faults (D.state dev.new).faults }
 {
     let mut arrays = Arrays::start(alloc, s)?;
     let mut rows = Vec::new(alloc);
+    let mut unknown = 0;
     for key in 0..keys_of(s.blocks) {
         add_key(&mut arrays, dev, &mut rows, key, s.blocks)?;
+        unknown += arrays.lost(key, s.blocks);
     }
-    Ok(rows)
+    Ok((rows, unknown))
 }
 
 /// How many blocks the mapping array of so many cache blocks has.

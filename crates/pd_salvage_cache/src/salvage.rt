@@ -2,6 +2,7 @@
 
 ghost use Rattle.std.specs.Prelude.{◌≡◌, ◌⊎◌, ◌^◌, ◌<◌, ◌≤◌, IfOk, IfSome};
 ghost use Rattle.std.specs.List.{All, AllByRecursion};
+ghost use Rattle.pd_laid.specs.CacheRoots.{unknown_words};
 ghost use Rattle.pd_laid.specs.SavedCache.{saved_cache_from};
 ghost use Rattle.pd_image.specs.Device.{IsAttached, OnlyReads};
 ghost use Rattle.pd_salvage_cache.specs.SavedCache.{FitsHead, head_of, held_cache};
@@ -15,7 +16,8 @@ use pd_salvage::SalvageFault;
 use std::alloc::Global;
 
 /// All that can be saved of the cache with this superblock: the entries whose mapping words a path of undamaged nodes leads
-/// to. What may be dirty is dirty, a lost hint is 0, and of the entries with one origin the first is kept.
+/// to. What may be dirty is dirty, a lost hint is 0, and of the entries with one origin the first is kept. The cache blocks
+/// whose mapping word is lost are counted.
 ///
 /// It takes the memory of a cursor over a tree for each array, 24 bytes an entry, and while it looks for an origin that
 /// comes twice up to 16 bytes an entry besides; where there is one, the origins in a tree and the entries once more.
@@ -30,13 +32,14 @@ pub fn salvage_cache<D: Device>(
     requires within { s.now.meta_map.blocks ≤ (D.state dev.old).blocks }
     requires hints { (s.now.hint_size ≡ 0) ⊎ (s.now.hint_size ≡ 4) }
     ensures saved { IfOk result (λ saved. IfSome (D.state dev.old).held (λ image. held_cache saved ≡ saved_cache_from s.now image)) }
+    ensures unknown { IfOk result (λ saved. IfSome (D.state dev.old).held (λ image. saved.unknown ≡ unknown_words s.now image)) }
     ensures head { IfOk result (λ saved. saved.head ≡ head_of s.now) }
     ensures kept { OnlyReads (D.state dev.old) (D.state dev.new) }
     ensures faults { CountsSalvage result (D.state dev.old).faults (D.state dev.new).faults }
 {
-    let rows = found_rows(alloc, dev, s)?;
+    let (rows, unknown) = found_rows(alloc, dev, s)?;
     let kept = first_rows(alloc, rows)?;
-    Ok(SavedCache::of_parts(head_of(s), kept))
+    Ok(SavedCache::of_parts(head_of(s), kept, unknown))
 }
 
 /// What is said of the whole cache with this superblock.

@@ -11,6 +11,8 @@ use std::marker::Model;
 pub struct SavedCache {
     head: CacheHead,
     rows: Vec<Row>,
+    /// The number of cache blocks of which nothing is known.
+    unknown: u32,
 }
 
 impl Model for SavedCache {
@@ -18,20 +20,24 @@ impl Model for SavedCache {
 
     ghost Value = { HeldCache };
 
-    ghost view = { λ s. record { head = s.head; rows = s.rows.items } };
+    ghost view = { λ s. record { head = s.head; rows = s.rows.items; unknown = s.unknown } };
 
-    ghost invariant = { λ s. IsSavedCache (record { head = s.head; rows = s.rows.items }) };
+    ghost invariant = { λ s. IsSavedCache (record { head = s.head; rows = s.rows.items; unknown = s.unknown }) };
 }
 
 impl SavedCache {
     ghost use Rattle.pd_salvage_cache.specs.SavedCache.{IsSavedCache};
 
-    /// A cache of this head and these entries.
-    pub fn of_parts(head: CacheHead, rows: Vec<Row>) -> SavedCache
-        requires { IsSavedCache (record { head = head; rows = rows.items }) }
-        ensures { result ≡ record { head = head; rows = rows.items } }
+    /// A cache of this head and these entries, of which so many cache blocks are unknown.
+    pub fn of_parts(head: CacheHead, rows: Vec<Row>, unknown: u32) -> SavedCache
+        requires { IsSavedCache (record { head = head; rows = rows.items; unknown = unknown }) }
+        ensures { result ≡ record { head = head; rows = rows.items; unknown = unknown } }
     {
-        SavedCache { head, rows }
+        SavedCache {
+            head,
+            rows,
+            unknown,
+        }
     }
 
     /// What is said of the whole cache.
@@ -48,6 +54,14 @@ impl SavedCache {
         ensures { result.now ≡ self.now.rows }
     {
         &self.rows
+    }
+
+    /// The number of cache blocks whose mapping word is lost: nobody knows whether they held something, and whether that was
+    /// dirty.
+    pub fn unknown(&self) -> u32
+        ensures { result ≡ self.now.unknown }
+    {
+        self.unknown
     }
 }
 

@@ -6,6 +6,7 @@ pub mod VisitingLemmas
 pub mod DeviceLemmas
 pub mod MetPieces
 pub mod NoteLemmas
+pub mod OnceLemmas
 pub mod ShapeIs
 pub mod SharedLemmas
 pub mod ToldShape

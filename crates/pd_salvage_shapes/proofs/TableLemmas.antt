@@ -51,7 +51,7 @@ runs_within blocks least (r ∷ runs) few some are =
     let rest = rest_of_run blocks least r.virt r.target r.time r.length (mappings_of_runs runs) are in
     ((some.0, omega arith), runs_within blocks rest.0 runs few some.1 rest.1)
 
-note_runs : (blocks : ℕ) (note : LeafNote) → blocks ≤ 2 ^ 40 → IsNote blocks note → AreRuns note.runs
+pub note_runs : (blocks : ℕ) (note : LeafNote) → blocks ≤ 2 ^ 40 → IsNote blocks note → AreRuns note.runs
 note_runs blocks note few is =
     runs_within blocks 0 note.runs few (subst (λ (rs : List text.Run). AllByRecursion (λ (r : text.Run). 1 ≤ r.length) rs) is.joined (joined_some (noted note))) is.lawful
 

@@ -1,4 +1,5 @@
 pub mod Note
+pub mod Once
 pub mod Pieces
 pub mod SeenShape
 pub mod Tops

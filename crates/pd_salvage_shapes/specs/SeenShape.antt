@@ -6,16 +6,18 @@ use Rattle.std.specs.List.{AllByRecursion, flat_map, slice_get, range_with_len}
 use Rattle.std.specs.Option.{option_to_list}
 use Rattle.pd_kinds.specs.ThinFormat.{ThinFields}
 use Rattle.pd_laid.specs.Shape.{ShapeDevice, ThinShape}
+use Rattle.pd_meaning_thin.specs.declared.joined.Run.{Run}
 use Rattle.pd_laid.specs.PoolText.{device_of_part}
 use Rattle.pd_salvage.specs.declared.saved_shape.ShapedDevice.{ShapedDevice}
+use Rattle.pd_salvage.specs.declared.saved_shape.SavedPiece.{SavedPiece}
 use Rattle.pd_salvage.specs.SavedShape.{IsPartJoined, device_parts, runs_of_pieces}
 use Rattle.pd_salvage_shapes.specs.declared.pieces.ShapedDevices.{ShapedDevices}
 use Rattle.pd_salvage_shapes.specs.declared.note.LeafNote.{LeafNote}
 use Rattle.pd_salvage_shapes.specs.declared.pieces.Piecing.{Piecing}
 use Rattle.pd_salvage_shapes.specs.declared.tops.Top.{Top}
 use Rattle.pd_salvage_shapes.specs.declared.visiting.Seen.{Seen}
-use Rattle.pd_salvage_shapes.specs.Pieces.{AreNumbers, HasPieces, IsIdle, pieces_of_mets, AreRuns, leaf_maps}
-use Rattle.pd_salvage_shapes.specs.Visiting.{mets_of}
+use Rattle.pd_salvage_shapes.specs.Pieces.{AreNumbers, HasPieces, IsIdle, IsPiecing, pieces_of_mets, AreRuns, leaf_maps}
+use Rattle.pd_salvage_shapes.specs.Visiting.{mets_at, mets_of}
 use Rattle.pd_salvage_shapes.specs.Note.{Met, noted}
 
 -- a device with its pieces, and each of some
@@ -33,6 +35,12 @@ abbrev pub shaped_devices : List ℕ → List LeafNote → List Top → List See
 shaped_devices ones notes [] seen = []
 shaped_devices ones notes (t ∷ tops) [] = []
 shaped_devices ones notes (t ∷ tops) (d ∷ seen) = shaped_device ones notes t d ∷ shaped_devices ones notes tops seen
+
+-- the note with a number was taken
+abbrev pub TakesAt : List LeafNote → List ℕ → ℕ → Piecing → Piecing → Type 0
+TakesAt notes numbers k old new =
+    (ones : List ℕ) (pieces : List SavedPiece) (runs : List Run) (done : List Met) → AreNumbers ones numbers
+    → IsPiecing ones pieces runs old done → IsPiecing ones pieces runs new (done ++ mets_at (slice_get notes k))
 
 -- what a device met was taken
 pub record TakesDevice (notes : List LeafNote) (numbers met : List ℕ) (count : ℕ) (old new : Piecing) : Type 0 where

@@ -6,6 +6,7 @@
 
 mod note;
 mod numbers;
+mod once;
 mod pieces;
 mod shape;
 mod tops;

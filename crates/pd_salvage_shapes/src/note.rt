@@ -193,6 +193,7 @@ pub(crate) fn note_of(
     let mut runs = PackedRuns::new(alloc);
     let mut gathering = gather_leaf(block, range, blocks, &mut runs)?;
     gathering.joining.end(&mut runs)?;
+    runs.trim();
     let full = is_all(gathering.mapped, entries::<BlockTime>(block) as u64);
     Ok(LeafNote {
         block: place,
@@ -205,7 +206,7 @@ pub(crate) fn note_of(
 }
 
 /// The note of a leaf of which nothing is saved.
-fn no_note(alloc: Global, place: u64) -> LeafNote
+pub(crate) fn no_note(alloc: Global, place: u64) -> LeafNote
     ensures none { noted result ≡ [] }
     ensures at { result.block ≡ place }
     ensures part { result.full ≡ false }

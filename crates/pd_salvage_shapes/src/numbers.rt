@@ -76,6 +76,13 @@ impl Numbers {
             self.last.count += 1;
             return Ok(());
         }
+        if self.last.count == 0 {
+            self.last = NumberRange {
+                first: number,
+                count: 1,
+            };
+            return Ok(());
+        }
         self.done.push(self.last)?;
         self.last = NumberRange {
             first: number,

@@ -6,6 +6,7 @@ ghost use Rattle.pd_salvage_shapes.specs.SeenShape.{AreShaped, AllWithin, AreSiz
 
 use crate::note::LeafNote;
 use crate::numbers::Numbers;
+use crate::once::{count_meetings, forget_once};
 use crate::tops::Top;
 use crate::visiting::Seen;
 use pd_meaning_thin::PackedRuns;
@@ -25,11 +26,12 @@ pub(crate) struct Piecing {
 }
 
 impl Piecing {
-    ghost use Rattle.std.specs.Prelude.{◌≡◌, List, [], length, IfOk, OnOk};
+    ghost use Rattle.std.specs.Prelude.{◌≡◌, ◌<◌, List, [], length, IfOk, OnOk};
     ghost use Rattle.pd_kinds.specs.Meaning.{Mapping};
     ghost use Rattle.pd_meaning_thin.specs.declared.joined.Run.{Run};
     ghost use Rattle.pd_salvage.specs.Gather.{IsJoining, Takes, mappings_of_runs};
-    ghost use Rattle.pd_salvage_shapes.specs.SeenShape.{TakesDevice};
+    ghost use Rattle.pd_salvage_shapes.specs.Once.{KeepsOthers, MeetOnce};
+    ghost use Rattle.pd_salvage_shapes.specs.SeenShape.{TakesAt, TakesDevice};
     ghost use Rattle.pd_salvage_shapes.specs.Pieces.{AreRuns, EndsOwn, IsIdle, TakesMet};
     ghost use Rattle.pd_salvage_shapes.specs.SeenShape.{AreSized, AreWithin};
 
@@ -94,23 +96,39 @@ impl Piecing {
         Ok(())
     }
 
-    /// Takes all that a device met, and answers how many pieces that is.
+    /// Takes the note with this number.
+    fn take_at(&mut self, notes: &[LeafNote], numbers: &[u32], k: usize) -> Result<(), AllocError>
+        requires sized { AreSized (length numbers.now) notes.now }
+        requires within { k < length notes.now }
+        ensures { OnOk result (TakesAt notes.now numbers.now k self.old self.new) }
+    {
+        let note = &notes[k];
+        let number = number_of(note, numbers);
+        self.take_met(note, number)?;
+        Ok(())
+    }
+
+    /// Takes all that a device met, and answers how many pieces that is. A note that is said to be met once is forgotten.
     pub(crate) fn take_device(
         &mut self,
-        notes: &[LeafNote],
+        alloc: Global,
+        notes: &mut [LeafNote],
         numbers: &[u32],
+        times: &[u8],
         met: &[u32],
     ) -> Result<usize, AllocError>
-        requires sized { AreSized (length numbers.now) notes.now }
-        requires within { AreWithin notes.now met.now }
+        requires sized { AreSized (length numbers.now) notes.old }
+        requires within { AreWithin notes.old met.now }
+        requires once { MeetOnce times.now met.now }
         requires idle { IsIdle self.old }
-        ensures { IfOk result (λ count. TakesDevice notes.now numbers.now met.now count self.old self.new) }
+        ensures takes { IfOk result (λ count. TakesDevice notes.old numbers.now met.now count self.old self.new) }
+        ensures others { OnOk result (KeepsOthers times.now met.now notes.old notes.new) }
+        ensures sized { OnOk result (AreSized (length numbers.now) notes.new) }
     {
         let before = self.pieces.len();
         for k in met {
-            let note = &notes[*k as usize];
-            let number = number_of(note, numbers);
-            self.take_met(note, number)?;
+            self.take_at(notes, numbers, *k as usize)?;
+            forget_once(alloc, notes, times, *k as usize);
         }
         Self::end_own(self)?;
         Ok(self.pieces.len().saturating_sub(before))
@@ -141,6 +159,7 @@ pub(crate) struct ShapedDevices {
 
 impl ShapedDevices {
     ghost use Rattle.std.specs.Prelude.{length, OnOk};
+    ghost use Rattle.pd_salvage_shapes.specs.Once.{KeepsOthers, MeetOnce};
     ghost use Rattle.pd_salvage_shapes.specs.SeenShape.{AddsDevice};
     ghost use Rattle.pd_salvage_shapes.specs.Pieces.{IsIdle};
     ghost use Rattle.pd_salvage_shapes.specs.SeenShape.{AreSized, AreWithin};
@@ -149,18 +168,24 @@ impl ShapedDevices {
     fn add(
         &mut self,
         alloc: Global,
-        notes: &[LeafNote],
+        notes: &mut [LeafNote],
         numbers: &[u32],
+        times: &[u8],
         top: &Top,
         seen: &Seen,
     ) -> Result<(), AllocError>
-        requires sized { AreSized (length numbers.now) notes.now }
-        requires within { AreWithin notes.now seen.now.met }
+        requires sized { AreSized (length numbers.now) notes.old }
+        requires within { AreWithin notes.old seen.now.met }
+        requires once { MeetOnce times.now seen.now.met }
         requires idle { IsIdle self.old.piecing }
-        ensures { OnOk result (AddsDevice notes.now numbers.now top.now seen.now self.old self.new) }
+        ensures adds { OnOk result (AddsDevice notes.old numbers.now top.now seen.now self.old self.new) }
+        ensures others { OnOk result (KeepsOthers times.now seen.now.met notes.old notes.new) }
+        ensures sized { OnOk result (AreSized (length numbers.now) notes.new) }
     {
         let met = seen.met.list(alloc)?;
-        let pieces = self.piecing.take_device(notes, numbers, met.as_slice())?;
+        let pieces = self
+            .piecing
+            .take_device(alloc, notes, numbers, times, met.as_slice())?;
         self.devices.push(ShapedDevice {
             id: top.id,
             details: Details {
@@ -184,19 +209,21 @@ fn count_met(seen: &[Seen]) -> usize {
     count
 }
 
-/// The devices with the pieces of what they met, of which each list is freed once its pieces are made.
+/// The devices with the pieces of what they met. Of each device the list of what it met is freed once its pieces are made, and
+/// so are the runs of each note that it alone met.
 pub(crate) fn shape_devices(
     alloc: Global,
-    notes: &[LeafNote],
+    notes: &mut [LeafNote],
     numbers: &[u32],
     tops: &[Top],
     seen: &mut [Seen],
 ) -> Result<ShapedDevices, AllocError>
-    requires sized { AreSized (length numbers.now) notes.now }
-    requires within { AllWithin notes.now seen.old }
+    requires sized { AreSized (length numbers.now) notes.old }
+    requires within { AllWithin notes.old seen.old }
     requires each { length seen.old ≡ length tops.now }
-    ensures { IfOk result (λ shaped. (ones : List ℕ) → AreNumbers ones numbers.now → AreShaped ones notes.now tops.now seen.old shaped) }
+    ensures { IfOk result (λ shaped. (ones : List ℕ) → AreNumbers ones numbers.now → AreShaped ones notes.old tops.now seen.old shaped) }
 {
+    let times = count_meetings(alloc, notes, seen)?;
     let piecing = Piecing::with_room(alloc, count_met(seen))?;
     let mut shaped = ShapedDevices {
         devices: Vec::new(alloc),
@@ -208,7 +235,7 @@ pub(crate) fn shape_devices(
             mapped: 0,
         };
         let one = mem::replace(&mut seen[i], none);
-        shaped.add(alloc, notes, numbers, &tops[i], &one)?;
+        shaped.add(alloc, notes, numbers, times.as_slice(), &tops[i], &one)?;
     }
     Ok(shaped)
 }

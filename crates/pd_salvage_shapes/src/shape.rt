@@ -26,9 +26,9 @@ use std::alloc::{AllocError, Global};
 ///
 /// An inner node is read at most once for each device and range of keys that isn't empty, and not again while it still
 /// stands in the place of its depth. A leaf is read once, and once more for each range that cuts it. For a device with the
-/// root of the device before it no block is read. While this works, the runs of each are held once, and of each device the
-/// numbers of the leaves that it met: 8 bytes for those in a row. Room for the pieces is taken at once: 4 bytes for each leaf
-/// that a device met.
+/// root of the device before it no block is read. While this works, the runs of each leaf that one device alone met are held
+/// once, and those of any other at most twice. Each leaf takes some 160 bytes more, and of each device the numbers of the leaves
+/// that it met: 8 bytes for those in a row. Room for the pieces is taken at once: 4 bytes for each leaf that a device met.
 ///
 /// Fails with `Device` where a read failed, and with `Memory` where memory wasn't found.
 pub fn salvage_shape<D: Device>(
@@ -47,29 +47,31 @@ pub fn salvage_shape<D: Device>(
     let tops = read_tops(alloc, dev, s)?;
     let mut visiting = Visiting::start(alloc, s)?;
     let mut seen = see_all(alloc, &mut visiting, dev, tops.as_slice())?;
-    Ok(shape_of(alloc, &visiting, tops.as_slice(), seen.as_mut_slice())?)
+    Ok(shape_of(alloc, visiting, tops.as_slice(), seen.as_mut_slice())?)
 }
 
 /// The shape of what was met of these devices, which it uses up.
 fn shape_of(
     alloc: Global,
-    visiting: &Visiting,
+    visiting: Visiting,
     tops: &[Top],
     seen: &mut [Seen],
 ) -> Result<SavedShape, AllocError>
-    requires few { visiting.now.s.meta_map.blocks ≤ 4161600 }
-    requires data { visiting.now.s.data_map.blocks ≤ 2 ^ 40 }
-    requires table { HasTable visiting.now }
+    requires few { visiting.s.meta_map.blocks ≤ 4161600 }
+    requires data { visiting.s.data_map.blocks ≤ 2 ^ 40 }
+    requires table { HasTable visiting }
     requires each { length seen.old ≡ length tops.now }
-    requires seen { AllByRecursion (IsSeen visiting.now.s.data_map.blocks visiting.now.notes.items) seen.old }
+    requires seen { AllByRecursion (IsSeen visiting.s.data_map.blocks visiting.notes.items) seen.old }
     requires tops { AreTops 0 tops.now }
     ensures { IfOk result (λ shape. held_shape shape
-        ≡ seen_shape visiting.now.s visiting.now.places.items visiting.now.notes.items tops.now seen.old) }
+        ≡ seen_shape visiting.s visiting.places.items visiting.notes.items tops.now seen.old) }
 {
+    let mut visiting = visiting;
     let notes = visiting.notes.as_slice();
     let places = visiting.places.as_slice();
     let uses = count_all(alloc, visiting.s.meta_map.blocks, notes, seen)?;
     let shared = share(alloc, uses.as_slice(), places, notes)?;
+    let notes = visiting.notes.as_mut_slice();
     let shaped = shape_devices(alloc, notes, shared.numbers.as_slice(), tops, seen)?;
     Ok(SavedShape::of_parts(
         head_of(&visiting.s),

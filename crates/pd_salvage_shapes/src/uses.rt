@@ -16,8 +16,8 @@ fn next_use(uses: u8) -> u8
     if uses == 0 { 1 } else { 2 }
 }
 
-/// Counts one more use of a block.
-fn count_use(uses: &mut [u8], block: u64)
+/// Counts one more use of a block, or of a note.
+pub(crate) fn count_use(uses: &mut [u8], block: u64)
     requires { block < length uses.old }
     ensures counted { (blocks : List ℕ) → AreUses blocks uses.old → AreUses (blocks ++ block ∷ []) uses.new }
     ensures same { length uses.new ≡ length uses.old }

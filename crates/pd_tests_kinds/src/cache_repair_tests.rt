@@ -47,10 +47,10 @@ const TO_THIRD: &[&str] = &[
 ];
 
 /// The tools that check and dump.
-const CACHE: (&str, &str) = ("cache_check", "cache_dump");
+pub(crate) const CACHE: (&str, &str) = ("cache_check", "cache_dump");
 
 /// Repairs an image onto these blocks.
-fn repair(
+pub(crate) fn repair(
     alloc: Global,
     words: &[&str],
     image: &[Block],
@@ -67,7 +67,7 @@ fn repair(
 }
 
 /// The blocks that a repair makes of sixteen blocks of ones, which says so much.
-fn repaired(
+pub(crate) fn repaired(
     alloc: Global,
     words: &[&str],
     image: &[Block],
@@ -83,10 +83,18 @@ fn repaired(
 type Sound = (&'static [&'static str], &'static str, &'static str);
 
 const SOUND: &[Sound] = &[
-    (FIRST, TWO_MAPPED, "keeps 2 of 510 blocks, 1 dirty\n"),
-    (SECOND, TWO_MAPPED, "keeps 2 of 510 blocks, 1 dirty\n"),
-    (FIRST, EMPTY, "keeps 0 of 0 blocks, 0 dirty\n"),
-    (SECOND, EMPTY, "keeps 0 of 0 blocks, 0 dirty\n"),
+    (
+        FIRST,
+        TWO_MAPPED,
+        "keeps 2 of 510 blocks, 1 dirty, 0 unknown\n",
+    ),
+    (
+        SECOND,
+        TWO_MAPPED,
+        "keeps 2 of 510 blocks, 1 dirty, 0 unknown\n",
+    ),
+    (FIRST, EMPTY, "keeps 0 of 0 blocks, 0 dirty, 0 unknown\n"),
+    (SECOND, EMPTY, "keeps 0 of 0 blocks, 0 dirty, 0 unknown\n"),
     // Of a cache that wasn't shut down each entry counts as dirty.
     (SECOND, NOT_SHUT_DOWN, BOTH_DIRTY),
 ];
@@ -128,7 +136,12 @@ const ROWS: &[Row] = &[
     (FIRST, &[(2, First(458755))], ONE_CLEAN, ONE_MAPPED),
     (SECOND, &[(2, First(458753))], ONE_CLEAN, ONE_MAPPED),
     // The words of a damaged block aren't looked at.
-    (FIRST, &[(2, Damage)], ONE_CLEAN, ONE_MAPPED),
+    (
+        FIRST,
+        &[(2, Damage)],
+        "keeps 1 of 510 blocks, 0 dirty, 1 unknown\n",
+        ONE_MAPPED,
+    ),
     (FIRST, &[(1, Damage)], ONE_DIRTY, LAST_MAPPED),
     (SECOND, &[(1, Damage)], ONE_DIRTY, LAST_MAPPED),
     (FIRST, &[(3, Damage)], NOTHING, NONE_MAPPED),
@@ -147,32 +160,32 @@ const ROWS: &[Row] = &[
     (
         SECOND,
         &[(6, Eighth(0))],
-        "keeps 2 of 510 blocks, 0 dirty\n",
+        "keeps 2 of 510 blocks, 0 dirty, 0 unknown\n",
         NONE_DIRTY,
     ),
 ];
 
-const ONE_CLEAN: &str = "keeps 1 of 510 blocks, 0 dirty\n";
+const ONE_CLEAN: &str = "keeps 1 of 510 blocks, 0 dirty, 0 unknown\n";
 
-const ONE_DIRTY: &str = "keeps 1 of 510 blocks, 1 dirty\n";
+const ONE_DIRTY: &str = "keeps 1 of 510 blocks, 1 dirty, 509 unknown\n";
 
-const NOTHING: &str = "keeps 0 of 510 blocks, 0 dirty\n";
+pub(crate) const NOTHING: &str = "keeps 0 of 510 blocks, 0 dirty, 510 unknown\n";
 
-const BOTH: &str = "keeps 2 of 510 blocks, 1 dirty\n";
+pub(crate) const BOTH: &str = "keeps 2 of 510 blocks, 1 dirty, 0 unknown\n";
 
-const BOTH_DIRTY: &str = "keeps 2 of 510 blocks, 2 dirty\n";
+pub(crate) const BOTH_DIRTY: &str = "keeps 2 of 510 blocks, 2 dirty, 0 unknown\n";
 
 const LAST_MAPPED: &str =
     "cache 1\ncache 00000000-0000-0000-0000-000000000000 128 510 1 736d7100000000000000000000000000 2 0 0 4\nmap 509 8 1 6\nend\n";
 
-const NONE_MAPPED: &str =
+pub(crate) const NONE_MAPPED: &str =
     "cache 1\ncache 00000000-0000-0000-0000-000000000000 128 510 1 736d7100000000000000000000000000 2 0 0 4\nend\n";
 
-const WITHOUT_HINTS: &str =
+pub(crate) const WITHOUT_HINTS: &str =
     "cache 1\ncache 00000000-0000-0000-0000-000000000000 128 510 1 736d7100000000000000000000000000 2 0 0 4\nmap 0 7 0 0\n\
      map 509 8 1 0\nend\n";
 
-const ALL_DIRTY: &str =
+pub(crate) const ALL_DIRTY: &str =
     "cache 1\ncache 00000000-0000-0000-0000-000000000000 128 510 1 736d7100000000000000000000000000 2 0 0 4\nmap 0 7 1 5\n\
      map 509 8 1 6\nend\n";
 
@@ -215,16 +228,19 @@ fn text_of_600(alloc: Global, end: u16, all_dirty: bool) -> Result<String, Fail>
 /// all are dirty.
 type Half = (&'static [&'static str], usize, &'static str, u16, bool);
 
+/// Of the second block of mapping words nothing is known.
+const HALF: &str = "keeps 509 of 600 blocks, 254 dirty, 91 unknown\n";
+
 const HALVES: &[Half] = &[
-    (FIRST, 2, "keeps 509 of 600 blocks, 254 dirty\n", 509, false),
+    (FIRST, 2, HALF, 509, false),
+    (SECOND, 2, HALF, 509, false),
     (
         SECOND,
-        2,
-        "keeps 509 of 600 blocks, 254 dirty\n",
-        509,
-        false,
+        6,
+        "keeps 600 of 600 blocks, 600 dirty, 0 unknown\n",
+        600,
+        true,
     ),
-    (SECOND, 6, "keeps 600 of 600 blocks, 600 dirty\n", 600, true),
 ];
 
 /// A row holds.

@@ -1,7 +1,8 @@
 //! Checks and dumps of caches, sound and broken ones.
 
 use crate::cache_tests::Change::{
-    Damage, Eighth, First, GapIndex, Hints, Magic, OneHint, SevenWords, ShortIndex, Version,
+    Blocks, Damage, Eighth, First, GapIndex, Hints, Magic, Older, OneHint, SevenWords, ShortIndex,
+    Version,
 };
 use pd_array::{Word, write_array};
 use pd_bitmap::index_entry;
@@ -89,6 +90,10 @@ pub(crate) enum Change {
     Version(u32),
     /// The root of the hints, and their size.
     Hints(u64, u32),
+    /// Its number of cache blocks.
+    Blocks(u32),
+    /// It is the root of an older mapping array, over the same words.
+    Older,
 }
 
 /// A superblock with this version, and without dirty bits.
@@ -108,6 +113,14 @@ fn with_hints(first: &Block, root: u64, size: u32) -> Block {
     write_cache_super(&fields)
 }
 
+/// A superblock with so many cache blocks.
+fn with_blocks(first: &Block, blocks: u32) -> Block {
+    let mut fields = read_cache_super(first);
+    fields.version = 2;
+    fields.blocks = blocks;
+    write_cache_super(&fields)
+}
+
 /// A block that is changed so.
 #[tactic(auto, unfolding(pd_kinds::specs::Node::is_ascending))]
 fn changed(block: &Block, change: Change) -> Block {
@@ -122,6 +135,8 @@ fn changed(block: &Block, change: Change) -> Block {
         Magic => resealed(*block, Kind::Cache.salt(), 32, 5),
         Version(version) => of_version(block, version),
         Hints(root, size) => with_hints(block, root, size),
+        Blocks(blocks) => with_blocks(block, blocks),
+        Older => write_leaf(13, &[(0, Root(1)), (1, Root(2))]),
     }
 }
 

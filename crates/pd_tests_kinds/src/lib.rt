@@ -7,6 +7,8 @@ mod cache_repair_tests;
 #[cfg(test)]
 mod cache_restore_tests;
 #[cfg(test)]
+mod cache_roots_tests;
+#[cfg(test)]
 mod cache_tests;
 #[cfg(test)]
 mod era_restore_tests;

@@ -133,11 +133,18 @@ const READING: &[Row] = &[
         &["thin_ls", "x"],
         "device 1 mapped 1 exclusive 1 shared 0 transaction 0 created 0 snapped 0\n",
     ),
+    (THIN, APART, &["thin_trim", "--list", "x"], "unused 1 2\n"),
     (
         THIN,
         ONE,
         &["thin_repair", "--dry-run", "-i", "x"],
         "device 1 kept 1 of 1\nkeeps 1 1 need 10 shared 10\n",
+    ),
+    (
+        CACHE,
+        CACHE_TEXT,
+        &["cache_repair", "--dry-run", "-i", "x"],
+        KEEPS_BOTH,
     ),
     (
         ERA,
@@ -156,13 +163,11 @@ const WRITING: &[Row] = &[
     (THIN, ONE, &["thin_repair", "-i", "a", "-o", "x"], ""),
     (THIN, SHARED_LEAF, REPAIR_SHARED, ""),
     (THIN, ONE, SEARCH, "roots 2 3 mappings 1 time 0\n"),
-    (
-        CACHE,
-        CACHE_TEXT,
-        REPAIR_CACHE,
-        "keeps 2 of 510 blocks, 1 dirty\n",
-    ),
+    (CACHE, CACHE_TEXT, REPAIR_CACHE, KEEPS_BOTH),
 ];
+
+/// What a repair keeps of the cache.
+const KEEPS_BOTH: &str = "keeps 2 of 510 blocks, 1 dirty, 0 unknown\n";
 
 /// The words of a repair that keeps what is shared, and of one of a cache.
 const REPAIR_SHARED: &[&str] = &["thin_repair", "--shared", "-i", "a", "-o", "x"];

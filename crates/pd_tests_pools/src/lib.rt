@@ -31,6 +31,8 @@ mod stored_tests;
 #[cfg(test)]
 mod super_tests;
 #[cfg(test)]
+mod unused_tests;
+#[cfg(test)]
 mod walk_tests;
 #[cfg(test)]
 mod whole_tests;

@@ -133,6 +133,13 @@ const REPAIR_CACHE: &str = "cache_repair -i x -o y";
 
 const REPAIR_CACHE_1: &str = "cache_repair --metadata-version 1 -i x -o y";
 
+/// What a repair of a cache would keep, from its own roots and from a root outside, and a repair from a named root.
+const DRY_CACHE: &str = "cache_repair --dry-run -i x";
+
+const DRY_CACHE_NAMED: &str = "cache_repair --dry-run --mapping-root 99 -i x";
+
+const CACHE_NAMED: &str = "cache_repair --mapping-root 3 -i x -o y";
+
 /// A restore of the second version of a cache.
 const CACHE_2: &str = "cache_restore --metadata-version 2 -i t -o x";
 
@@ -165,6 +172,9 @@ pub(crate) const READINGS: &[Asked] = &[
     ("thin_rmap --region 4..6 x", "", Twice, Nothing, 0),
     ("thin_ls x", "", Twice, Nothing, 0),
     ("thin_dump --shared x", "", Twice, Nothing, 0),
+    ("thin_trim --list x", "", Twice, Nothing, 0),
+    ("thin_trim --list -o f x", "", DamagedPool, Nothing, 1),
+    ("thin_trim x", "", Pool, Nothing, 2),
     ("thin_repair --dry-run -i x", "", DamagedPool, Nothing, 0),
     ("thin_repair --dry-run --shared -i x", "", Twice, Nothing, 0),
     ("thin_repair --dry-run -i x", "", NoPool, Nothing, 1),
@@ -173,6 +183,9 @@ pub(crate) const READINGS: &[Asked] = &[
     (DRY_SEARCH_NONE, "", NoPool, Nothing, 1),
     (DRY_NAMED, "", NoPool, Nothing, 0),
     (DRY_NAMED_ALONE, "", NoPool, Nothing, 0),
+    (DRY_CACHE, "", Cache, Nothing, 0),
+    (DRY_CACHE, "", Pool, Nothing, 1),
+    (DRY_CACHE_NAMED, "", Cache, Nothing, 0),
     ("era_invalidate --written-since 5 x", "", Target, Nothing, 0),
     ("thin_generate --number 1", "", Nothing, Nothing, 0),
     ("thin_check", "", Pool, Nothing, 2),
@@ -211,6 +224,7 @@ pub(crate) const WRITINGS: &[Asked] = &[
     (REPAIR_CACHE_1, "", Cache, Ones, 0),
     (REPAIR_CACHE, "", Pool, Target, 1),
     (REPAIR_CACHE, "", Cache, Nothing, 4),
+    (CACHE_NAMED, "", Cache, Target, 0),
 ];
 
 /// A writeback.

@@ -86,8 +86,8 @@ at_rest (Some (Writeback metadata fast origin)) before notes fresh verdicts =
     task_at_rest (writebacks.writeback metadata fast origin) before notes (writeback_rests metadata fast origin before (record before { notes = notes }) fresh (none_written before notes fresh))
 at_rest (Some (Shrink shared input output pool blocks)) before notes fresh verdicts =
     task_at_rest (shrinks.shrink shared input output pool blocks) before notes (shrink_rests shared input output pool blocks before (record before { notes = notes }) fresh (none_written before notes fresh))
-at_rest (Some (RepairCache version from to)) before notes fresh verdicts =
-    task_at_rest (repairs.repair_cache version from to) before notes (cache_repair_rests version from to before (record before { notes = notes }) fresh (none_written before notes fresh) refl)
+at_rest (Some (RepairCache version named from to)) before notes fresh verdicts =
+    task_at_rest (repairs.repair_cache version named from to) before notes (cache_repair_rests version named from to before (record before { notes = notes }) fresh (none_written before notes fresh) refl)
 at_rest (Some (Search shared from to given)) before notes fresh verdicts =
     task_at_rest (searches.search shared from to given.transaction given.block_size given.blocks) before notes
     (search_rests shared given from to before (record before { notes = notes }) fresh (none_written before notes fresh))
@@ -115,4 +115,4 @@ reads_at_rest (Some (Shrink shared input output pool blocks)) before notes = tt
 reads_at_rest (Some (Search shared from to given)) before notes = tt
 reads_at_rest (Some (RepairNamed shared from to given named)) before notes = tt
 reads_at_rest (Some (DrySearch path given named)) before notes = tt
-reads_at_rest (Some (RepairCache version from to)) before notes = tt
+reads_at_rest (Some (RepairCache version named from to)) before notes = tt

@@ -13,7 +13,9 @@ use Rattle.pd_kinds.specs.Objects.{SinkState, Rose}
 use Rattle.pd_kinds.specs.Stages.{faults}
 use Rattle.pd_grammar.specs.Lines.{no_room_line, reported_lines}
 use Rattle.pd_answers.specs.Terms.{Answer, AreFresh, Objects, Terms, is_possible}
-use Rattle.pd_answers.specs.Repairs.{LeavesKept, SavedIn, keeps_line, kept_answer, kept_line, making_in, repair_cache, saved_in, FindsSaved, Salvaged}
+use Rattle.pd_answers.specs.declared.request.CacheRoots.{CacheRoots}
+use Rattle.pd_answers.specs.KeptCache.{keeps_line, kept_line}
+use Rattle.pd_answers.specs.Repairs.{LeavesKept, SavedIn, kept_answer, making_in, repair_cache, saved_in, FindsSaved, Salvaged}
 use Rattle.pd_answers.specs.Outputs.{Lays}
 use Rattle.pd_image.specs.Device.{KeepsPlace}
 use Rattle.pd_restoring.specs.Made.{AnswersEnding, Content, IsEarly, IsDone as IsMadeDone}
@@ -52,7 +54,7 @@ is_asked (Some version) known = elim (cases_Bool (nat_eq version 1)) [
 
 -- the line of what is kept
 pub line_of : SavedIn → List ℕ
-line_of saved = keeps_line saved.cache
+line_of saved = keeps_line saved.cache saved.unknown
 
 -- an output that was left alone, under each status but 0
 left_alone : (found : Salvaged SavedIn) (before after : Objects) (status : ℕ) → AreFresh before → after.out ≡ before.out → IsUntouched before.output after.output → status ≢ 0
@@ -82,28 +84,28 @@ pub kept_lost : (found : Salvaged SavedIn) (before after : Objects) (status : �
 kept_lost found before after status some left = record { made = first_lost _ _ before after status some left.made; unread = left.unread }
 
 -- before anything was written
-pub cache_repair_rests : (version : Option ℕ) (from to : List ℕ) (before after : Objects) → AreFresh before → AreAlone before after → after.input.reads ≡ before.input.reads
-    → IsAtRest (repair_cache version from to) before after
-cache_repair_rests version from to before after fresh alone unread =
-    let rest = saved_at_rest (faults Cache Super) (saved_in version) before after alone in
+pub cache_repair_rests : (version : Option ℕ) (roots : CacheRoots) (from to : List ℕ) (before after : Objects) → AreFresh before → AreAlone before after → after.input.reads ≡ before.input.reads
+    → IsAtRest (repair_cache version roots from to) before after
+cache_repair_rests version roots from to before after fresh alone unread =
+    let rest = saved_at_rest (faults Cache Super) (saved_in version roots) before after alone in
     record {
       finding = rest.0;
       found = rest.1;
       leaves = λ status some. left_alone rest.0 before after status fresh alone.out alone.output some (λ _. rw unread (omega arith));
     }
 
-module _ (version : Option ℕ) (from to : List ℕ) (before after : Objects) (opened : Devices) (fresh : AreFresh before) (unput : after.out ≡ before.out)
-    (both : AreOpened (repair_cache version from to).uses (devices_of before) opened)
+module _ (version : Option ℕ) (roots : CacheRoots) (from to : List ℕ) (before after : Objects) (opened : Devices) (fresh : AreFresh before) (unput : after.out ≡ before.out)
+    (both : AreOpened (repair_cache version roots from to).uses (devices_of before) opened)
     (measured : IfSome opened.output.held (λ image. length image ≡ opened.output.blocks)) (place : KeepsPlace opened.output after.output) (few : ℕ) (few_is : few ≡ before.input.reads + 1)
-    (result : Result KeptCache RepairFault) (done : IsCacheRepaired version few result opened.input after.input opened.output after.output) where
+    (result : Result KeptCache RepairFault) (done : IsCacheRepaired version roots few result opened.input after.input opened.output after.output) where
   abbrev terms : Terms
-  terms = repair_cache version from to
+  terms = repair_cache version roots from to
 
   abbrev room : ℕ
   room = room_of opened.output.blocks
 
   abbrev saved : SavedIn
-  saved = record { version = done.written; cache = done.cache }
+  saved = record { version = done.written; cache = done.cache; unknown = done.unknown }
 
   abbrev content : Content
   content = cache_content done.written done.cache
@@ -120,19 +122,20 @@ module _ (version : Option ℕ) (from to : List ℕ) (before after : Objects) (o
   abbrev IsRightHere : Reported → Type 0
   IsRightHere report = IfSome before.input.held (λ image. report ≡ report_of (faults Cache Super image))
 
-  is_saved : (cache_here : SavedIn) (image : Image) → cache_here.cache ≡ (saved_in version image).cache → cache_here.version ≡ (saved_in version image).version → cache_here ≡ saved_in version image
-  is_saved cache_here image cache_is version_is = rw (cache_is, version_is) refl
+  is_saved : (cache_here : SavedIn) (image : Image) → cache_here.cache ≡ (saved_in version roots image).cache → cache_here.unknown ≡ (saved_in version roots image).unknown
+      → cache_here.version ≡ (saved_in version roots image).version → cache_here ≡ saved_in version roots image
+  is_saved cache_here image cache_is unknown_is version_is = rw (cache_is, unknown_is, version_is) refl
 
-  told : IfSome opened.input.held (λ image. saved ≡ saved_in version image)
-  told = one_told opened.input.held (λ image right. is_saved saved image right.0 right.1) done.right
+  told : IfSome opened.input.held (λ image. saved ≡ saved_in version roots image)
+  told = one_told opened.input.held (λ image right. is_saved saved image right.0 right.1.0 right.1.1) done.right
 
-  found_here : (report : Reported) → IsRightHere report → (out : SinkState) → FindsSaved (faults Cache Super) (saved_in version) before (record after { out = out }) (finding report)
-  found_here report right out = found_right (faults Cache Super) (saved_in version) before after opened both.input.untouched.held both.output.untouched.held measured place saved told result done.rules report right
+  found_here : (report : Reported) → IsRightHere report → (out : SinkState) → FindsSaved (faults Cache Super) (saved_in version roots) before (record after { out = out }) (finding report)
+  found_here report right out = found_right (faults Cache Super) (saved_in version roots) before after opened both.input.untouched.held both.output.untouched.held measured place saved told result done.rules report right
 
   -- there is room
   given : content.need room ≤ room → answer (report_of []) ≡ record { status = 0; out = line_of saved; notes = [] }
   unfolding line_of
-  given fits = answer_made making_in (λ (s : SavedIn). keeps_line s.cache) saved room fits
+  given fits = answer_made making_in (λ (s : SavedIn). keeps_line s.cache s.unknown) saved room fits
 
   zero_if : content.need room ≤ room → (answer (report_of [])).status ≡ 0
   zero_if fits = ap (λ (a : Answer). a.status) (given fits)
@@ -173,24 +176,24 @@ module _ (version : Option ℕ) (from to : List ℕ) (before after : Objects) (o
   no_room need blocks is =
       let told_here = told_of (Err (fault.NoRoom need blocks)) is in
       let small : room < content.need room = subst (λ (n : ℕ). room < n) told_here.0 told_here.1.1 in
-      let right = room_right (faults Cache Super) (saved_in version) before after opened both.input.untouched.held both.output.untouched.held measured place saved told result done.rules need blocks is in
+      let right = room_right (faults Cache Super) (saved_in version roots) before after opened both.input.untouched.held both.output.untouched.held measured place saved told result done.rules need blocks is in
       ended (report_of []) right 4 (no_room_line need blocks) (λ e. omega arith) refl
-      (rw (told_here.0, told_here.1.0) (answer_small making_in (λ (s : SavedIn). keeps_line s.cache) saved room small)) (early (Err (fault.NoRoom need blocks)) is tt)
+      (rw (told_here.0, told_here.1.0) (answer_small making_in (λ (s : SavedIn). keeps_line s.cache s.unknown) saved room small)) (early (Err (fault.NoRoom need blocks)) is tt)
 
   faulty : (rules : Rules) → result ≡ Err (fault.NoSuper rules) → (((rule : Rule) → has_rule rules rule ≡ false) → ⊥)
       → IsEnded terms before after 1 (reported_lines (report_of (faults_at 0 (has_rule rules))))
   faulty rules is named =
       let report = report_of (faults_at 0 (has_rule rules)) in
-      let right = faulty_right (faults Cache Super) (saved_in version) before after opened both.input.untouched.held both.output.untouched.held measured place saved told result done.rules rules is in
+      let right = faulty_right (faults Cache Super) (saved_in version roots) before after opened both.input.untouched.held both.output.untouched.held measured place saved told result done.rules rules is in
       ended report right 1 (reported_lines report) (λ e. omega arith) refl
-      (answer_faulty making_in (λ (s : SavedIn). keeps_line s.cache) saved room report (named_total rules named)) (early (Err (fault.NoSuper rules)) is tt)
+      (answer_faulty making_in (λ (s : SavedIn). keeps_line s.cache s.unknown) saved room report (named_total rules named)) (early (Err (fault.NoSuper rules)) is tt)
 
   -- whatever the fault
   pub cache_unrepaired : (f : RepairFault) → result ≡ Err f → NamesRules f → BlamesOne f opened.input.faults after.input.faults opened.output.faults after.output.faults
       → Works terms before after (repair_ended (Err f))
   cache_unrepaired fault.Memory is named counts =
-      let right = memory_right (faults Cache Super) (saved_in version) before after opened both.input.untouched.held both.output.untouched.held measured place saved told result done.rules is in
-      let none = memory_told (faults Cache Super) (saved_in version) before after opened both.input.untouched.held both.output.untouched.held measured place saved told result done.rules is in
+      let right = memory_right (faults Cache Super) (saved_in version roots) before after opened both.input.untouched.held both.output.untouched.held measured place saved told result done.rules is in
+      let none = memory_told (faults Cache Super) (saved_in version roots) before after opened both.input.untouched.held both.output.untouched.held measured place saved told result done.rules is in
       halted (report_of []) right Memory refl none
       (record {
         made = first_lacking before after opened.output fresh both.output.untouched unput content (output_ending result) done.output (answer (report_of [])) zero_if (rw is tt);
@@ -200,7 +203,7 @@ module _ (version : Option ℕ) (from to : List ℕ) (before after : Objects) (o
       halted (report_in (faults Cache Super) before.input.held) (report-told (faults Cache Super) before.input.held) Device refl (inl (rw both.input.faults at counts.0.0))
       (alone (early (Err fault.Input) is tt) (report_in (faults Cache Super) before.input.held) 5 (λ e. omega arith))
   cache_unrepaired fault.Output is named counts =
-      let right = output_right (faults Cache Super) (saved_in version) before after opened both.input.untouched.held both.output.untouched.held measured place saved told result done.rules is in
+      let right = output_right (faults Cache Super) (saved_in version roots) before after opened both.input.untouched.held both.output.untouched.held measured place saved told result done.rules is in
       let risen : Rose before.output.faults after.output.faults = rw both.output.faults at counts.1.0 in
       halted (report_of []) right Device refl (inr (inl risen))
       (record {
@@ -211,16 +214,16 @@ module _ (version : Option ℕ) (from to : List ℕ) (before after : Objects) (o
   cache_unrepaired (fault.NoRoom need blocks) is named counts = no_room need blocks is
 
   -- the line of what was kept is that of the cache
-  line_is : (kept : KeptCache) → IsKept kept done.cache → line_of saved ≡ kept_line kept.entries kept.blocks kept.dirty
+  line_is : (kept : KeptCache) → IsKept kept done.cache done.unknown → line_of saved ≡ kept_line kept.entries kept.blocks kept.dirty kept.unknown
   unfolding line_of
-  line_is kept is = rw (is.entries, is.blocks, is.dirty) refl
+  line_is kept is = rw (is.entries, is.blocks, is.dirty, is.unknown) refl
 
   -- the cache was written
-  pub cache_repaired : (kept : KeptCache) → result ≡ Ok kept → IsDone terms before after (kept_line kept.entries kept.blocks kept.dirty)
+  pub cache_repaired : (kept : KeptCache) → result ≡ Ok kept → IsDone terms before after (kept_line kept.entries kept.blocks kept.dirty kept.unknown)
   cache_repaired kept is =
-      let kept_is = subst (λ (r : Result KeptCache RepairFault). IfOk r (λ k. IsKept k done.cache)) is done.kept in
+      let kept_is = subst (λ (r : Result KeptCache RepairFault). IfOk r (λ k. IsKept k done.cache done.unknown)) is done.kept in
       let answer_is = given (told_of (Ok kept) is).1 ∙ ap (λ (line : List ℕ). record { status = 0; out = line; notes = [] }) (line_is kept kept_is) in
-      let right = done_right (faults Cache Super) (saved_in version) before after opened both.input.untouched.held both.output.untouched.held measured place saved told result done.rules kept is in
+      let right = done_right (faults Cache Super) (saved_in version roots) before after opened both.input.untouched.held both.output.untouched.held measured place saved told result done.rules kept is in
       record {
         finding = finding (report_of []);
         found = found_here (report_of []) right;

@@ -1,5 +1,6 @@
 //! A query of an image: the check of it, and then the text that answers the query.
-//! Serves `thin_dump`, `thin_ls`, `thin_rmap`, `thin_repair --dry-run`, `cache_dump`, `era_dump`, `era_invalidate`.
+//! Serves `thin_dump`, `thin_ls`, `thin_rmap`, `thin_trim`, `thin_repair --dry-run`, `cache_dump`, `cache_repair --dry-run`, `era_dump`,
+//! `era_invalidate`.
 
 ghost use Rattle.std.specs.Prelude.{◌≡◌, [], IfErr, OnOk, MatchResult, unwrap_or};
 ghost use Rattle.std.specs.Option.{option_copied};
@@ -19,12 +20,12 @@ use crate::ending::Stop;
 use pd_answers::Asked;
 use pd_dumps::{TextOfCache, TextOfEra, WrittenSince};
 use pd_image::{Device, Sink};
-use pd_kept::KeptOfPool;
+use pd_kept::{KeptOfCache, KeptOfPool};
 use pd_kinds::{Kind, Report};
 use pd_lines::print_report;
 use pd_pool_dumps::{TextOfPool, TextOfShape};
 use pd_query::{Query, QueryFault};
-use pd_uses::{DeviceList, ReverseMap};
+use pd_uses::{DeviceList, ReverseMap, UnusedBlocks};
 use std::alloc::Global;
 
 /// Checks the image at the path up to the stage of what is asked, and puts the text that answers to the file, or to the
@@ -121,8 +122,10 @@ fn put_text<K: Sink, A: Device>(
             put_answer(alloc, &ReverseMap { first, end }, file, out, input)
         }
         Asked::DeviceList => put_answer(alloc, &DeviceList, file, out, input),
+        Asked::Unused => put_answer(alloc, &UnusedBlocks, file, out, input),
         Asked::Since { era } => put_answer(alloc, &WrittenSince { era }, file, out, input),
         Asked::Kept => put_answer(alloc, &KeptOfPool, file, out, input),
+        Asked::KeptCache(named) => put_answer(alloc, &KeptOfCache { named }, file, out, input),
     }
 }
 

@@ -2,7 +2,7 @@
 
 ghost use Rattle.std.specs.Prelude.{◌≡◌, IfErr, true};
 ghost use Rattle.pd_kinds.specs.Rule.{faults_at, report_of, has_rule};
-ghost use Rattle.pd_answers.specs.Repairs.{saved_of, kept_line};
+ghost use Rattle.pd_answers.specs.Repairs.{saved_of};
 ghost use Rattle.pd_image.specs.Device.{IsAttached, IsWritable, KeepsPlace, OnlyReads};
 ghost use Rattle.pd_repair.specs.Repaired.{CountsRepair, IsRepairedAs, NamesRules};
 ghost use Rattle.pd_tools.specs.Ending.{repair_ended};
@@ -11,10 +11,11 @@ ghost use Rattle.pd_tools.specs.Given.{is_known};
 
 use crate::ending::{Ending, Outcome, Stop, no_room};
 use crate::task::{DevicePath, Places, Task};
+use pd_answers::CacheRoots;
 use pd_image::Device;
+use pd_kept::kept_cache_line;
 use pd_kinds::{Report, Rules};
-use pd_lines::LineBuffer;
-use pd_repair::{KeptCache, RepairFault, repair_cache, repair_shared, repair_thin};
+use pd_repair::{RepairFault, repair_cache, repair_shared, repair_thin};
 use std::alloc::Global;
 
 /// Writes what can be saved of the pool in the image at one path to the image at another, with the leaves that its devices
@@ -104,19 +105,21 @@ fn report_of_rules(rules: &Rules) -> Report
 // A repair of a cache, from the path of an image to that of another (`cache_repair`).
 
 /// Writes what can be saved of the cache in the image at one path to the image at another, in this version of its metadata or
-/// else in its own, and puts the line of what is kept. Where the superblock has faults, their report goes to `notes`.
+/// else in its own, and puts the line of what is kept. Roots that are named stand for those of the superblock. Where the
+/// superblock has faults, their report goes to `notes`.
 #[derive(Clone, Copy)]
 pub struct CacheRepair<'a> {
     pub from: &'a str,
     pub to: &'a str,
     pub version: Option<u32>,
+    pub named: CacheRoots,
     ghost known: { is_known version ≡ true },
 }
 
 impl Task for CacheRepair<'_> {
     ghost use Rattle.pd_answers.specs.Repairs.{repair_cache};
 
-    ghost terms = { λ task. repair_cache task.version task.from.now task.to.now };
+    ghost terms = { λ task. repair_cache task.version task.named task.from.now task.to.now };
 
     fn places(&self) -> Places<'_> {
         Places {
@@ -135,25 +138,9 @@ impl Task for CacheRepair<'_> {
         output: &mut B,
         third: &mut C,
     ) -> Result<Outcome, Stop> {
-        match repair_cache(alloc, input, output, self.version) {
-            Ok(kept) => Ok(Outcome::Line(kept_text(&kept))),
+        match repair_cache(alloc, input, output, self.version, self.named) {
+            Ok(kept) => Ok(Outcome::Line(kept_cache_line(&kept))),
             Err(fault) => ended_of(Err(fault)),
         }
     }
-}
-
-/// The line of what is kept of a cache.
-fn kept_text(kept: &KeptCache) -> LineBuffer
-    ensures { result ≡ kept_line kept.now.entries kept.now.blocks kept.now.dirty }
-{
-    let mut line = LineBuffer::new();
-    line.add(b"keeps ");
-    line.add_number(kept.entries);
-    line.add(b" of ");
-    line.add_number(u64::from(kept.blocks));
-    line.add(b" blocks, ");
-    line.add_number(kept.dirty);
-    line.add(b" dirty");
-    line.add(b"\n");
-    line
 }

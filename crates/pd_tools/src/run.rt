@@ -192,10 +192,16 @@ fn run_request<S: Source, K: Sink, E: Sink, A: Device, B: Device, C: Device>(
         }
         Request::RepairCache {
             version,
+            named,
             input: from,
             output: to,
         } => {
-            let task = CacheRepair { from, to, version };
+            let task = CacheRepair {
+                from,
+                to,
+                version,
+                named,
+            };
             run_task(alloc, &task, out, notes, input, output, third)
         }
         Request::Generate { number, file } => run_generate(number, file, out, notes),

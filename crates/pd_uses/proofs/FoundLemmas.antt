@@ -43,7 +43,7 @@ there_last : (n : ℕ) (visits : List Visit) (visit : Visit) → AreThere n visi
 there_last n [] visit there last = (last, tt)
 there_last n (one ∷ visits) visit there last = (there.0, there_last n visits visit there.1 last)
 
-uses_last : (leaves : List (List Hit)) (visits : List Visit) (visit : Visit) → visits_uses leaves (visits ++ (visit ∷ [])) ≡ visits_uses leaves visits ++ visit_uses leaves visit
+pub uses_last : (leaves : List (List Hit)) (visits : List Visit) (visit : Visit) → visits_uses leaves (visits ++ (visit ∷ [])) ≡ visits_uses leaves visits ++ visit_uses leaves visit
 unfolding visits_uses
 uses_last leaves visits visit =
     flat_map-append (visit_uses leaves) visits (visit ∷ []) ∙ ap (λ (uses : List DataUse). flat_map (visit_uses leaves) visits ++ uses) (append-nil (visit_uses leaves visit))

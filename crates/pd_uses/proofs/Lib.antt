@@ -5,3 +5,8 @@ pub mod CountLemmas
 pub mod FoundLemmas
 pub mod ListRowLemmas
 pub mod TallyLemmas
+pub mod StoredLemmas
+pub mod UnusedLemmas
+pub mod RunLemmas
+pub mod OrderLemmas
+pub mod DigitLemmas

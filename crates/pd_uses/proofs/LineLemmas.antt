@@ -1,6 +1,6 @@
 -- Lines that are gathered, one after another.
 use denote.Param.Members.{Mut}
-use Rattle.std.proofs.Common.{◌≡◌, ℕ, zero, suc, ◌+◌, ◌-◌, ◌<◌, ◌≤◌, max, Bool, true, not, ◌&&◌, cond, nat_eq, nat_lt, Bor, List, [], ◌∷◌, ◌++◌, filter, get_or, refl, sym, ap, ◌∙◌, arith, inl, inr, eq-eqb, subst, length, take, drop, Option, IfSome, Result, append_assoc, map, codes, decimal}
+use Rattle.std.proofs.Common.{◌≡◌, ℕ, zero, suc, ◌+◌, ◌-◌, ◌<◌, ◌≤◌, max, Bool, true, not, ◌&&◌, cond, nat_eq, nat_lt, Bor, List, [], ◌∷◌, ◌++◌, filter, get_or, refl, sym, ap, ◌∙◌, arith, inl, inr, eq-eqb, subst, drop, Option, IfSome, Result, append_assoc, map, codes, decimal}
 use Rattle.std.specs.Fn.{Called}
 use Rattle.std.specs.List.{All, AllByRecursion, flat_map, range_with_len}
 use Rattle.std.specs.List.Sorted.{IsNonDecreasingBy, IsPermutation, IsSortedByKeyClosure, IsStableByKey, IsStableByKeyClosure, ties}
@@ -10,7 +10,7 @@ use Rattle.std.proofs.lemmas.Fn.{always_returns_same}
 use Rattle.std.proofs.lemmas.List.Concat.{flat_map-append}
 use Rattle.std.proofs.lemmas.List.Elements.{filter_passes, recursion_from_All, filter-append}
 use Rattle.std.proofs.lemmas.List.Sorted.{All-permutation, IsNonDecreasingBy-from_sort_by_key}
-use Rattle.std.proofs.lemmas.List.{append-nil, take-append-drop, take_more, get_or-drop}
+use Rattle.std.proofs.lemmas.List.{get_or-drop}
 use Rattle.pd_kinds.proofs.NumberLemmas.{range_split}
 use Rattle.pd_kinds.specs.declared.superblocks.ThinSuper.{ThinSuper}
 use Rattle.pd_kinds.specs.Graph.{block_at}
@@ -31,7 +31,7 @@ use Rattle.pd_uses.proofs.CountLemmas.{alone_are, number_of_first, number_of_oth
 -- Uses that were sorted by their blocks, where those of one block stayed in their order.
 
 -- no block is below one that stands before it
-abbrev BlocksRise : List DataUse → Type 0
+abbrev pub BlocksRise : List DataUse → Type 0
 BlocksRise [] = Unit {0}
 BlocksRise (one ∷ uses) = AllByRecursion (λ (other : DataUse). one.block ≤ other.block) uses × BlocksRise uses
 
@@ -69,7 +69,7 @@ first_stays (suc n) (suc k) first one uses is within all =
     rw (ne_eqb one.block first (λ same. omega arith), none_below one.block first uses (omega arith) all) (first_stays n k (first + 1) one uses (omega arith) (omega arith) all)
 
 -- uses whose blocks rise are those of one block after another
-grouped : (first n : ℕ) (uses : List DataUse) → BlocksRise uses → AllByRecursion (λ (one : DataUse). (first ≤ one.block) × (one.block < first + n)) uses
+pub grouped : (first n : ℕ) (uses : List DataUse) → BlocksRise uses → AllByRecursion (λ (one : DataUse). (first ≤ one.block) × (one.block < first + n)) uses
     → flat_map (uses_of_block uses) (range_with_len first n) ≡ uses
 grouped first n [] rise all = no_uses first n
 grouped first n (one ∷ uses) rise all =
@@ -186,19 +186,6 @@ pub same_end : (first end : ℕ) (uses : List DataUse) → ordered_uses first (m
 same_end first end uses =
     let n : max end first - first ≡ end - first = omega arith in
     ap (λ (k : ℕ). flat_map (uses_of_block uses) (range_with_len first k)) n
-
--- the lines of uses up to a place, and of one more
-pub text_so_far : (uses : List DataUse) (i : ℕ) (d : DataUse) → i < length uses → uses_text (take (i + 1) uses) ≡ uses_text (take i uses) ++ use_line (get_or uses i d)
-text_so_far uses i d within = ap uses_text (take_more uses i d within) ∙ (flat_map-append use_line (take i uses) (get_or uses i d ∷ []) ∙ ap (λ (xs : List ℕ). uses_text (take i uses) ++ xs) (append-nil (use_line (get_or uses i d))))
-
--- those up to a place, and the others
-pub text_cut : (uses : List DataUse) (i : ℕ) → uses_text uses ≡ uses_text (take i uses) ++ uses_text (drop i uses)
-text_cut uses i = ap uses_text (sym (take-append-drop i uses)) ∙ flat_map-append use_line (take i uses) (drop i uses)
-
--- a front of the lines of uses, behind those up to a place
-pub uses_lost : (uses : List DataUse) (i : ℕ) (d : DataUse) {old mid new : Printing} → i < length uses → Printed (uses_text (take i uses)) old mid → Begun (use_line (get_or uses i d)) mid new
-    → Begun (uses_text uses) old new
-uses_lost uses i d within printed begun = rw (text_cut uses (i + 1), text_so_far uses i d within) (begun_first (uses_text (drop (i + 1) uses)) (begun_after printed begun))
 
 -- a line that was printed or begun, which is this one where the device tells what it holds
 pub line_told : {E : Type 0} (held : Option (List (List ℕ))) (text_of : List (List ℕ) → List ℕ) (text : List ℕ) {old new : Printing} {result : Result (Unit {0}) E}

@@ -1,7 +1,12 @@
 pub mod Uses
 pub mod ListWalk
 pub mod Hits
+pub mod HitRuns
+pub mod InOrder
+pub mod UseLine
 pub mod Spans
 pub mod Parts
 pub mod FoundUses
 pub mod Descent
+pub mod Stored
+pub mod Unused

@@ -70,7 +70,7 @@ fn find_leaf(
         → Finds wanted.region image wanted.id (hits_in wanted.region block.now.0) some found.old found.new) }
 {
     let hits = LeafHits::of(alloc, wanted.region, block)?;
-    if hits.as_slice().is_empty() {
+    if hits.is_empty() {
         found.set_note(b, HitNote::Bare(u32::MAX));
         return Ok(false);
     }

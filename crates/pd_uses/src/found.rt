@@ -1,9 +1,6 @@
 //! What is known of a pool's metadata blocks, and the leaves in which a region has mappings (`thin_rmap`).
 
-ghost use Rattle.std.specs.Prelude.{◌≡◌, ◌++◌, map, OnOk};
-ghost use Rattle.pd_uses.specs.Hits.{use_of};
-
-use crate::hits::{DataUse, Hit, LeafHits, Region, hits_of, number_of_hits, parts_of};
+use crate::hits::{DataUse, LeafHits, Region, add_part_uses, number_of_hits, parts_of};
 use std::alloc::{AllocError, Global};
 
 /// How many lines come for each sample of their blocks: a prime, so that devices with the same mappings give other blocks.
@@ -31,7 +28,8 @@ pub(crate) struct Visit {
 
 /// The leaves with mappings to the blocks of a region, each of them once, and which devices have them where.
 ///
-/// It takes 8 bytes a metadata block, 40 a leaf, 16 a mapping, and 16 for each time that a device has such a leaf.
+/// It takes 8 bytes a metadata block, 40 a leaf, 24 a run of mappings to neighbouring blocks, and 16 for each time that a
+/// device has such a leaf.
 #[derive(Drop)]
 pub(crate) struct Found {
     notes: Vec<HitNote>,
@@ -109,6 +107,20 @@ impl Found {
         Ok(number as u32)
     }
 
+    /// The leaves, by their numbers.
+    pub(crate) fn leaves(&self) -> &[LeafHits]
+        ensures { result.now ≡ self.now.leaves.items }
+    {
+        self.leaves.as_slice()
+    }
+
+    /// Which devices have which leaves, in the order of the devices, and of each device's leaves.
+    pub(crate) fn visits(&self) -> &[Visit]
+        ensures { result.now ≡ self.now.visits.items }
+    {
+        self.visits.as_slice()
+    }
+
     /// The uses by the visits of the mappings in a region, visit after visit. Want of memory is the only error.
     pub(crate) fn uses_in(&self, alloc: Global, region: Region) -> Result<Vec<DataUse>, AllocError>
         ensures { IfOk result (λ uses. uses.items ≡ filter (is_within region.first region.end) (found_uses self.now)) }
@@ -117,8 +129,8 @@ impl Found {
         let parts = parts_of(alloc, leaves, region)?;
         let mut uses = Vec::with_capacity(alloc, number_of_hits(leaves, parts.as_slice()))?;
         for visit in &self.visits {
-            let hits = hits_of(leaves, parts.as_slice(), visit.leaf as usize);
-            add_uses(&mut uses, visit.id, hits)?;
+            let leaf = visit.leaf as usize;
+            add_part_uses(&mut uses, visit.id, leaves, parts.as_slice(), leaf)?;
         }
         Ok(uses)
     }
@@ -144,28 +156,14 @@ impl Found {
             let Some(leaf) = self.leaves.get(visit.leaf as usize) else {
                 continue;
             };
-            lines = lines.saturating_add(leaf.as_slice().len());
+            lines = lines.saturating_add(leaf.number());
             if lines >= SAMPLE_LINES {
                 lines = 0;
-                if let Some(hit) = leaf.as_slice().first() {
-                    samples.push(hit.block)?;
+                if let Some(run) = leaf.runs().first() {
+                    samples.push(run.block)?;
                 }
             }
         }
         Ok(samples)
     }
-}
-
-/// Adds the uses that mappings are where a device has them. Want of memory is the only error.
-fn add_uses(uses: &mut Vec<DataUse>, id: u64, hits: &[Hit]) -> Result<(), AllocError>
-    ensures { OnOk result (uses.new.items ≡ uses.old.items ++ map (use_of id) hits.now) }
-{
-    for hit in hits {
-        uses.push(DataUse {
-            block: hit.block,
-            id,
-            virt: hit.virt,
-        })?;
-    }
-    Ok(())
 }

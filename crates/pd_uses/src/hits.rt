@@ -1,12 +1,14 @@
 //! The mappings of leaves to the data blocks of a region (`thin_rmap`).
 
-ghost use Rattle.std.specs.Prelude.{◌≡◌, ◌++◌, ◌∷◌, [], false, filter, IfOk, IsTrue, OnOk};
+ghost use Rattle.std.specs.Prelude.{◌≡◌, ◌++◌, ◌∷◌, [], false, filter, map, IfOk, IsTrue, OnOk};
 ghost use Rattle.pd_kinds.specs.Node.{is_inner_node};
-ghost use Rattle.pd_uses.specs.Hits.{has_block, hits_in, is_hit};
+ghost use Rattle.pd_uses.specs.HitRuns.{joined_hits};
+ghost use Rattle.pd_uses.specs.Hits.{has_block, hits_in, is_hit, run_hits, runs_hits, use_of};
 ghost use Rattle.pd_uses.specs.Spans.{IsSpan};
 ghost use Rattle.pd_uses.specs.FoundUses.{leaf_at};
 ghost use Rattle.pd_uses.specs.Parts.{AreParts, hits_at, part_hits};
 
+use crate::hit_runs::{HitRun, Joining};
 use pd_kinds::Block;
 use pd_node::{entries, key, value};
 use pd_value::BlockTime;
@@ -29,6 +31,19 @@ pub(crate) struct Hit {
     pub(crate) virt: u64,
 }
 
+impl Hit {
+    /// The use that it is where the device of this number has the leaf.
+    pub(crate) fn use_by(self, id: u64) -> DataUse
+        ensures { result ≡ use_of id self }
+    {
+        DataUse {
+            block: self.block,
+            id,
+            virt: self.virt,
+        }
+    }
+}
+
 /// A block at or below those of some mappings, and one at or above them.
 #[derive(Clone, Copy, Debug, PartialEq, Eq)]
 pub(crate) struct Span {
@@ -36,23 +51,24 @@ pub(crate) struct Span {
     pub(crate) most: u64,
 }
 
-/// The mappings of a leaf to the blocks of a region, in 16 bytes each, and between which blocks they lead.
+/// The mappings of a leaf to the blocks of a region, in runs, and between which blocks they lead.
 #[derive(Drop)]
 pub(crate) struct LeafHits {
-    hits: Vec<Hit>,
+    runs: Vec<HitRun>,
     span: Span,
 }
 
 impl Model for LeafHits {
     ghost use Rattle.std.specs.Prelude.{List};
     ghost use Rattle.pd_uses.specs.declared.hits.Hit.{Hit as OneHit};
+    ghost use Rattle.pd_uses.specs.Hits.{runs_hits};
     ghost use Rattle.pd_uses.specs.Spans.{IsSpan};
 
     ghost Value = { List OneHit };
 
-    ghost view = { λ leaf. leaf.hits.items };
+    ghost view = { λ leaf. runs_hits leaf.runs.items };
 
-    ghost invariant = { λ leaf. IsSpan leaf.span leaf.hits.items };
+    ghost invariant = { λ leaf. IsSpan leaf.span (runs_hits leaf.runs.items) };
 }
 
 impl Region {
@@ -74,49 +90,82 @@ fn add_hit(hits: &mut Vec<Hit>, region: Region, hit: Hit) -> Result<(), AllocErr
     Ok(())
 }
 
+/// Adds the mappings of a run whose blocks are in the region. Want of memory is the only error.
+fn add_run(hits: &mut Vec<Hit>, region: Region, run: HitRun) -> Result<(), AllocError>
+    ensures { OnOk result (hits.new.items ≡ hits.old.items ++ filter (is_hit region) (run_hits run)) }
+{
+    for place in 0..run.number {
+        add_hit(hits, region, run.hit(place))?;
+    }
+    Ok(())
+}
+
+/// Adds a mapping to runs, if its block is in the region. Want of memory is the only error.
+fn join_hit(joining: &mut Joining, region: Region, hit: Hit) -> Result<(), AllocError>
+    ensures { OnOk result (joined_hits joining.new ≡ joined_hits joining.old ++ filter (is_hit region) (hit ∷ [])) }
+{
+    if region.has(hit.block) {
+        joining.add(hit)?;
+    }
+    Ok(())
+}
+
 /// The mappings of a leaf to the blocks of the region. Want of memory is the only error.
 #[tactic(auto, unfolding(crate::specs::Hits::hits_in, pd_tree::specs::Below::items_from))]
-fn hits_of_leaf(alloc: Global, region: Region, block: &Block) -> Result<Vec<Hit>, AllocError>
+fn hits_of_leaf(alloc: Global, region: Region, block: &Block) -> Result<Vec<HitRun>, AllocError>
     requires { is_inner_node block.now.0 ≡ false }
-    ensures { IfOk result (λ hits. hits.items ≡ hits_in region block.now.0) }
+    ensures { IfOk result (λ runs. runs_hits runs.items ≡ hits_in region block.now.0) }
 {
-    let number = entries::<BlockTime>(block);
-    let mut hits = Vec::with_capacity(alloc, number)?;
-    for i in 0..number {
+    let mut joining = Joining::new(alloc);
+    for i in 0..entries::<BlockTime>(block) {
         let hit = Hit {
             block: value::<BlockTime>(block, i).block,
             virt: key::<BlockTime>(block, i),
         };
-        add_hit(&mut hits, region, hit)?;
+        join_hit(&mut joining, region, hit)?;
     }
-    hits.shrink_to_fit();
-    Ok(hits)
+    joining.end()
 }
 
 /// Between which blocks mappings lead.
-fn span_of(hits: &[Hit]) -> Span
-    ensures { IsSpan result hits.now }
+fn span_of(runs: &[HitRun]) -> Span
+    ensures { IsSpan result (runs_hits runs.now) }
 {
     let mut span = Span {
         least: u64::MAX,
         most: 0,
     };
-    for hit in hits {
-        span = Span {
-            least: span.least.min(hit.block),
-            most: span.most.max(hit.block),
-        };
+    for run in runs {
+        let least = span.least.min(run.first_block());
+        let most = span.most.max(run.last_block());
+        span = Span { least, most };
     }
     span
 }
 
 /// How many of the mappings lead to the blocks of the region.
-fn number_within(hits: &[Hit], region: Region) -> usize {
+fn number_within(runs: &[HitRun], region: Region) -> usize {
     let mut number: usize = 0;
-    for hit in hits {
-        number = number.wrapping_add(region.has(hit.block) as usize);
+    for run in runs {
+        let first = run.block.max(region.first);
+        let end = run
+            .block
+            .saturating_add(u64::from(run.number))
+            .min(region.end);
+        number = number.saturating_add(end.saturating_sub(first) as usize);
     }
     number
+}
+
+/// Those of the mappings in another region. Want of memory is the only error.
+fn hits_within(alloc: Global, runs: &[HitRun], region: Region) -> Result<Vec<Hit>, AllocError>
+    ensures { IfOk result (λ hits. hits.items ≡ filter (is_hit region) (runs_hits runs.now)) }
+{
+    let mut hits = Vec::with_capacity(alloc, number_within(runs, region))?;
+    for run in runs {
+        add_run(&mut hits, region, *run)?;
+    }
+    Ok(hits)
 }
 
 impl LeafHits {
@@ -125,9 +174,16 @@ impl LeafHits {
         requires { is_inner_node block.now.0 ≡ false }
         ensures { IfOk result (λ leaf. leaf ≡ hits_in region block.now.0) }
     {
-        let hits = hits_of_leaf(alloc, region, block)?;
-        let span = span_of(hits.as_slice());
-        Ok(LeafHits { hits, span })
+        let runs = hits_of_leaf(alloc, region, block)?;
+        let span = span_of(runs.as_slice());
+        Ok(LeafHits { runs, span })
+    }
+
+    /// Whether there are none.
+    pub(crate) fn is_empty(&self) -> bool
+        ensures { IsTrue result → self.now ≡ [] }
+    {
+        self.runs().is_empty()
     }
 
     /// Whether all of them lead past the region, to one side or the other. It looks at none of them.
@@ -148,18 +204,23 @@ impl LeafHits {
     pub(crate) fn within(&self, alloc: Global, region: Region) -> Result<Vec<Hit>, AllocError>
         ensures { IfOk result (λ hits. hits.items ≡ filter (is_hit region) self.now) }
     {
-        let mut hits = Vec::with_capacity(alloc, number_within(self.as_slice(), region))?;
-        for hit in self.as_slice() {
-            add_hit(&mut hits, region, *hit)?;
-        }
-        Ok(hits)
+        hits_within(alloc, self.runs(), region)
     }
 
-    /// The mappings, by ascending virtual block.
-    pub(crate) fn as_slice(&self) -> &[Hit]
-        ensures { result.now ≡ self.now }
+    /// The mappings in runs, by ascending virtual block.
+    pub(crate) fn runs(&self) -> &[HitRun]
+        ensures { runs_hits result.now ≡ self.now }
     {
-        self.hits.as_slice()
+        self.runs.as_slice()
+    }
+
+    /// How many there are.
+    pub(crate) fn number(&self) -> usize {
+        let mut number: usize = 0;
+        for run in &self.runs {
+            number = number.saturating_add(run.number as usize);
+        }
+        number
     }
 }
 
@@ -216,35 +277,88 @@ pub(crate) fn parts_of(
     Ok(parts)
 }
 
-/// The mappings of the leaf of a number; there are none without a leaf.
-fn all_hits(leaves: &[LeafHits], n: usize) -> &[Hit]
-    ensures { result.now ≡ leaf_at leaves.now n }
+/// The mappings of the leaf of a number, in runs; there are none without a leaf.
+#[tactic(auto, unfolding(crate::specs::Hits::runs_hits))]
+pub(crate) fn runs_of(leaves: &[LeafHits], n: usize) -> &[HitRun]
+    ensures { runs_hits result.now ≡ leaf_at leaves.now n }
 {
     match leaves.get(n) {
-        Some(leaf) => leaf.as_slice(),
+        Some(leaf) => leaf.runs(),
         None => &[],
     }
 }
 
-/// What the leaf of a number has of the part.
-pub(crate) fn hits_of<'a>(leaves: &'a [LeafHits], parts: &'a [LeafPart], n: usize) -> &'a [Hit]
-    ensures { result.now ≡ hits_at leaves.now parts.now n }
+/// Adds the uses that the mappings of the leaf of a number to a part's blocks are where a device has the leaf. Want of
+/// memory is the only error.
+pub(crate) fn add_part_uses(
+    uses: &mut Vec<DataUse>,
+    id: u64,
+    leaves: &[LeafHits],
+    parts: &[LeafPart],
+    n: usize,
+) -> Result<(), AllocError>
+    ensures { OnOk result (uses.new.items ≡ uses.old.items ++ map (use_of id) (hits_at leaves.now parts.now n)) }
 {
     let Some(has) = parts.get(n) else {
-        return &[];
+        return Ok(());
     };
     match has {
-        LeafPart::Nothing => &[],
-        LeafPart::Whole => all_hits(leaves, n),
-        LeafPart::Cut(hits) => hits.as_slice(),
+        LeafPart::Nothing => Ok(()),
+        LeafPart::Whole => add_runs(uses, id, runs_of(leaves, n)),
+        LeafPart::Cut(hits) => add_uses(uses, id, hits.as_slice()),
     }
 }
 
 /// How many mappings the leaves have of the part.
 pub(crate) fn number_of_hits(leaves: &[LeafHits], parts: &[LeafPart]) -> usize {
     let mut number: usize = 0;
-    for n in 0..parts.len() {
-        number = number.saturating_add(hits_of(leaves, parts, n).len());
+    for (n, has) in parts.iter().enumerate() {
+        let here = match has {
+            LeafPart::Nothing => 0,
+            LeafPart::Whole => number_of(leaves, n),
+            LeafPart::Cut(hits) => hits.len(),
+        };
+        number = number.saturating_add(here);
     }
     number
+}
+
+/// How many mappings the leaf of a number has.
+fn number_of(leaves: &[LeafHits], n: usize) -> usize {
+    match leaves.get(n) {
+        Some(leaf) => leaf.number(),
+        None => 0,
+    }
+}
+
+// Uses of data blocks, put together.
+
+/// Adds the uses that mappings are where a device has them. Want of memory is the only error.
+fn add_uses(uses: &mut Vec<DataUse>, id: u64, hits: &[Hit]) -> Result<(), AllocError>
+    ensures { OnOk result (uses.new.items ≡ uses.old.items ++ map (use_of id) hits.now) }
+{
+    for hit in hits {
+        uses.push(hit.use_by(id))?;
+    }
+    Ok(())
+}
+
+/// Adds the uses that runs of mappings are where a device has them. Want of memory is the only error.
+fn add_runs(uses: &mut Vec<DataUse>, id: u64, runs: &[HitRun]) -> Result<(), AllocError>
+    ensures { OnOk result (uses.new.items ≡ uses.old.items ++ map (use_of id) (runs_hits runs.now)) }
+{
+    for run in runs {
+        add_run_uses(uses, id, *run)?;
+    }
+    Ok(())
+}
+
+/// Adds those that one run is.
+fn add_run_uses(uses: &mut Vec<DataUse>, id: u64, run: HitRun) -> Result<(), AllocError>
+    ensures { OnOk result (uses.new.items ≡ uses.old.items ++ map (use_of id) (run_hits run)) }
+{
+    for place in 0..run.number {
+        uses.push(run.hit(place).use_by(id))?;
+    }
+    Ok(())
 }

@@ -17,6 +17,7 @@ use crate::asking::{add_labeled, super_to_ask};
 use crate::descent::find_region;
 use crate::found::Found;
 use crate::hits::{DataUse, Region};
+use crate::in_order::{are_in_order, print_visits};
 use pd_image::{Device, Sink};
 use pd_kinds::ThinSuper;
 use pd_lines::{PieceBuffer, Printer, TextLine};
@@ -26,9 +27,10 @@ use std::alloc::{AllocError, Global};
 
 /// Puts a line for each mapping to a data block from `first` on and below `end`, of the pool with this superblock:
 /// ordered by data block, then by the number of the thin device, then by virtual block. Each leaf of mappings is read once,
-/// however many devices share it. It holds 8 bytes a metadata block, 16 for each mapping of a leaf to those blocks, 72 for
-/// each leaf that has any, 16 for each time that a device has such a leaf, and the lines of some 2^18 mappings at once, in 24
-/// bytes each, at most 16 more where these are a part of their leaf's, and the buffer of their sort.
+/// however many devices share it. It holds 8 bytes a metadata block, 24 for each run of a leaf's mappings to neighbouring
+/// blocks of those, 72 for each leaf that has any, and 16 for each time that a device has such a leaf. Where the devices don't
+/// have them in this order already, it holds the lines of some 2^18 mappings at once, in 24 bytes each, at most 16 more where
+/// these are a part of their leaf's, and the buffer of their sort.
 ///
 /// Fails with `Device` where a read failed, with `Memory` where memory wasn't found, and with `Sink` where `out` failed;
 /// then a front of the lines was put. Nothing is put before all leaves were read.
@@ -70,9 +72,30 @@ fn put_region<K: Sink>(
     ensures faults { PutFails result (K.state out.old).faults (K.state out.new).faults }
 {
     let mut printer = Printer::to_sink(out);
-    let cuts = found.cuts(alloc)?;
-    add_parts(alloc, found, region, cuts.as_slice(), &mut printer)?;
+    add_region(alloc, found, region, &mut printer)?;
     finish(printer)
+}
+
+/// Prints the lines of the uses of a region's blocks: leaf by leaf where they are in order so, else part after part.
+fn add_region<K: Sink>(
+    alloc: Global,
+    found: &Found,
+    region: Region,
+    printer: &mut Printer<'_, K>,
+) -> Result<(), QueryFault>
+    requires { (K.state printer.old.out.now).access ≡ 1 }
+    ensures same_reference { printer.new.out.ghost_name ≡ printer.old.out.ghost_name }
+    ensures prints { Prints (uses_text (ordered_uses region.first region.end (found_uses found.now))) result (printing K.state printer.old)
+        (printing K.state printer.new) }
+    ensures faults { PutFails result (K.state printer.old.out.now).faults (K.state printer.new.out.now).faults }
+{
+    let visits = found.visits();
+    let leaves = found.leaves();
+    if are_in_order(visits, leaves, region) {
+        return print_visits(visits, leaves, printer);
+    }
+    let cuts = found.cuts(alloc)?;
+    add_parts(alloc, found, region, cuts.as_slice(), printer)
 }
 
 /// Prints the lines of the uses of a region's blocks, part after part. Each of these blocks ends one, or an empty one where

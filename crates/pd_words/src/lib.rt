@@ -1,6 +1,7 @@
 //! The words of a command line, and the request that they spell.
 #![tactic(auto)]
 
+mod cache_repairs;
 mod items;
 mod repairs;
 mod table;

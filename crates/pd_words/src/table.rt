@@ -128,6 +128,30 @@ pub(crate) const DETAILS_ROOT: NamedWord = Word {
     need: Need::Wanted(Value::UpTo(u64::MAX)),
 };
 
+/// The root of a cache's mapping array.
+pub(crate) const MAP_ROOT: NamedWord = Word {
+    name: "--mapping-root",
+    need: Need::Optional(Value::UpTo(u64::MAX)),
+};
+
+/// The root of its hint array.
+pub(crate) const HINT_ROOT: NamedWord = Word {
+    name: "--hint-root",
+    need: Need::Optional(Value::UpTo(u64::MAX)),
+};
+
+/// The root of its dirty bits.
+pub(crate) const DIRTY_ROOT: NamedWord = Word {
+    name: "--dirty-root",
+    need: Need::Optional(Value::UpTo(u64::MAX)),
+};
+
+/// That the blocks to which no mapping leads are listed.
+pub(crate) const LIST: NamedWord = Word {
+    name: "--list",
+    need: Need::Mark,
+};
+
 /// The metadata of a cache.
 pub(crate) const METADATA: NamedWord = Word {
     name: "--metadata-device",
@@ -160,7 +184,7 @@ pub(crate) const BLOCKS: NamedWord = Word {
 
 /// The forms of the tools, and what can be given to each. A tool whose name stands more than once has as many forms, and takes
 /// the first that has all words that are given.
-pub static TOOLS: [ToolForm; 23] = [
+pub static TOOLS: [ToolForm; 25] = [
     ToolWords {
         name: "thin_check",
         tool: Tool::Check(Kind::Thin),
@@ -257,7 +281,12 @@ pub static TOOLS: [ToolForm; 23] = [
     ToolWords {
         name: "cache_repair",
         tool: Tool::RepairCache,
-        words: &[VERSION, INPUT, OUTPUT],
+        words: &[OUTPUT, VERSION, MAP_ROOT, HINT_ROOT, DIRTY_ROOT, INPUT],
+    },
+    ToolWords {
+        name: "cache_repair",
+        tool: Tool::DryRepairCache,
+        words: &[DRY_RUN, VERSION, MAP_ROOT, HINT_ROOT, DIRTY_ROOT, INPUT],
     },
     ToolWords {
         name: "thin_rmap",
@@ -268,6 +297,11 @@ pub static TOOLS: [ToolForm; 23] = [
         name: "thin_ls",
         tool: Tool::DeviceList,
         words: &[FILE, IMAGE],
+    },
+    ToolWords {
+        name: "thin_trim",
+        tool: Tool::Unused,
+        words: &[LIST, FILE, IMAGE],
     },
     ToolWords {
         name: "era_invalidate",

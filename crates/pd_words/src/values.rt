@@ -2,7 +2,8 @@
 
 ghost use Rattle.std.specs.Prelude.{◌≡◌, ◌≤◌, ◌+◌, map, string_bytes, IfSome, ◌^◌};
 ghost use Rattle.std.specs.Option.{option_and_then, option_copied, option_map};
-ghost use Rattle.pd_answers.specs.Words.{at_most_one, given, is_set, number_below, single_value, region_of};
+ghost use Rattle.pd_answers.specs.declared.tool.Value.TheVariants as value_spec;
+ghost use Rattle.pd_answers.specs.Words.{at_most_one, given, is_set, meant_if_any, number_below, single_value, region_of};
 ghost use Rattle.pd_words.specs.Items.{items_in, AreItems, region_as, region_from};
 
 use crate::items::{Given, given_for};
@@ -54,6 +55,21 @@ pub(crate) fn required_number(words: &[String], most: u64, word: NamedWord) -> O
     match required(words, word) {
         None => None,
         Some(word) => number_up_to(most, word),
+    }
+}
+
+/// The number up to `most` that the value of an option is, where it is given.
+pub(crate) fn optional_number(words: &[String], most: u64, word: NamedWord) -> Option<Option<u64>>
+    requires { AreItems (map string_bytes words.now) }
+    ensures { result ≡ option_and_then (meant_if_any (value_spec.UpTo most))
+        (at_most_one (given word.entry.name.now (items_in (map string_bytes words.now)))) }
+{
+    match optional(words, word)? {
+        None => Some(None),
+        Some(word) => match number_up_to(most, word) {
+            None => None,
+            Some(number) => Some(Some(number)),
+        },
     }
 }
 

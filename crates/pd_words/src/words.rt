@@ -11,12 +11,13 @@ ghost use Rattle.pd_answers.specs.Words as words_spec;
 ghost use Rattle.pd_words.specs.Items.{items_in, AreItems};
 ghost use Rattle.pd_words.specs.Words.{read_as, AreNumbers, IsGenerated, IsVersion};
 
+use crate::cache_repairs::{read_dry_repair_cache, read_repair_cache};
 use crate::items::{are_items_of, tool_named};
 use crate::repairs::{
     read_dry_named, read_dry_repair, read_dry_search, read_named_repair, read_repair, read_search,
 };
 use crate::table::{
-    BLOCKS, CLEAR, DATA, FAST, FILE, IMAGE, INPUT, METADATA, NUMBER, ORIGIN, OUTPUT, PASSING,
+    BLOCKS, CLEAR, DATA, FAST, FILE, IMAGE, INPUT, LIST, METADATA, NUMBER, ORIGIN, OUTPUT, PASSING,
     REGION, SHARED, SINCE, TEXT, UNTIL, VERSION,
 };
 use crate::values::{flag, number_up_to, optional, read_region, required, required_number};
@@ -65,8 +66,10 @@ fn read_request(tool: Tool, words: &[String]) -> Option<Request<&str>>
         Tool::DrySearch => read_dry_search(words),
         Tool::DryNamed => read_dry_named(words),
         Tool::RepairCache => read_repair_cache(words),
+        Tool::DryRepairCache => read_dry_repair_cache(words),
         Tool::ReverseMap => read_rmap(words),
         Tool::DeviceList => read_device_list(words),
+        Tool::Unused => read_unused(words),
         Tool::Since => read_since(words),
         Tool::Generate => read_generate(words),
         Tool::Rehearse => read_rehearse(words),
@@ -190,23 +193,6 @@ fn read_restore(kind: Kind, words: &[String]) -> Option<Request<&str>>
     })
 }
 
-/// What the words ask of a cache's repair.
-#[tactic(auto, unfolding(pd_answers::specs::Words::request_of))]
-fn read_repair_cache(words: &[String]) -> Option<Request<&str>>
-    requires { AreItems (map string_bytes words.now) }
-    ensures asked { read_as result ≡ words_spec.request_of tool_spec.RepairCache (items_in (map string_bytes words.now)) }
-    ensures numbers { IfSome result AreNumbers }
-{
-    let version = version_if_any(optional(words, VERSION)?)?;
-    let input = required(words, INPUT)?;
-    let output = required(words, OUTPUT)?;
-    Some(Request::RepairCache {
-        version,
-        input,
-        output,
-    })
-}
-
 /// What the words ask of the reverse map.
 #[tactic(auto, unfolding(pd_answers::specs::Words::request_of))]
 fn read_rmap(words: &[String]) -> Option<Request<&str>>
@@ -238,6 +224,23 @@ fn read_device_list(words: &[String]) -> Option<Request<&str>>
     let image = required(words, IMAGE)?;
     Some(Request::Query {
         asked: Asked::DeviceList,
+        file,
+        image,
+    })
+}
+
+/// What the words ask of the list of unused data blocks.
+#[tactic(auto, unfolding(pd_answers::specs::Words::request_of))]
+fn read_unused(words: &[String]) -> Option<Request<&str>>
+    requires { AreItems (map string_bytes words.now) }
+    ensures asked { read_as result ≡ words_spec.request_of tool_spec.Unused (items_in (map string_bytes words.now)) }
+    ensures numbers { IfSome result AreNumbers }
+{
+    let _list = required(words, LIST)?;
+    let file = optional(words, FILE)?;
+    let image = required(words, IMAGE)?;
+    Some(Request::Query {
+        asked: Asked::Unused,
         file,
         image,
     })
@@ -379,7 +382,7 @@ fn stage_named(word: &str) -> Option<Stage>
 }
 
 /// The version of the metadata that a word names, if there is one.
-fn version_if_any(word: Option<&str>) -> Option<Option<u32>>
+pub(crate) fn version_if_any(word: Option<&str>) -> Option<Option<u32>>
     ensures version { result ≡ meant_if_any value_spec.Version (option_copied word.entry) }
     ensures within { IfSome result (λ read. IfSome read IsVersion) }
 {

@@ -1,4 +1,4 @@
-use Rattle.std.proofs.Common.{List, ℕ, refl, ◌∙◌, ap, subst, sym}
+use Rattle.std.proofs.Common.{List, ℕ, refl, ◌∙◌, subst, sym}
 use Rattle.std.proofs.lemmas.Result.{err_from_is_err_and}
 use Rattle.pd_kinds.specs.Meaning.{era_meaning}
 use Rattle.pd_answers.specs.QueryLines.{since_lines}
@@ -25,7 +25,7 @@ pub returns-clause-text : goal.returns-clause-text
 returns-clause-text g c =
     let state = g.K.Sink.state in
     let text_of = λ (image : List (List ℕ)). since_text c.args.era (eras_left image c.in_ok-eras.eras) in
-    puts_as (one_told (g.D.Device.state c.args.dev.now).held (λ image is text told. told ∙ ap (since_text c.args.era) is) c.in_ok-eras.ensures.eras)
+    puts_as (one_told (g.D.Device.state c.args.dev.now).held (λ image is text told. told ∙ is) c.in_ok-eras.ensures.text)
     (subst (λ held. PutsText held text_of c.put_since.result (state c.args.out.now).written (state c.put_since.new.out).written) c.in_ok-eras.ensures.kept.held c.put_since.ensures.text)
 
 pub returns-clause-lines : goal.returns-clause-lines
@@ -34,5 +34,5 @@ returns-clause-lines g c =
     let text_of = λ (image : List (List ℕ)). since_text c.args.era (eras_left image c.in_ok-eras.eras) in
     puts_as
     (one_told (g.D.Device.state c.args.dev.now).held
-    (λ image is text told own none. told ∙ (ap (since_text c.args.era) is ∙ lines_are c.args.era c.args.s.now image own (sym (c.lists_are_the_eras.ensures image none).eras))) c.in_ok-eras.ensures.eras)
+    (λ image is text told own none. told ∙ (is ∙ lines_are c.args.era c.args.s.now image own (sym (c.lists_are_the_eras.ensures image none).eras))) c.in_ok-eras.ensures.text)
     (subst (λ held. PutsText held text_of c.put_since.result (state c.args.out.now).written (state c.put_since.new.out).written) c.in_ok-eras.ensures.kept.held c.put_since.ensures.text)

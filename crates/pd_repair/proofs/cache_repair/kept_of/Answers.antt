@@ -7,4 +7,4 @@ pub returns : goal.returns
 returns c =
     let head = c.head-head.ensures.head in
     kept_is c.args.saved.now _ c.rows-rows.result.now c.head-head.result.now.clean c.rows-rows.ensures (ap (λ (h : CacheHead). h.clean) head) refl
-    (ap (λ (h : CacheHead). h.blocks) head) c.dirty_in.ensures
+    (ap (λ (h : CacheHead). h.blocks) head) c.dirty_in.ensures c.unknown.ensures

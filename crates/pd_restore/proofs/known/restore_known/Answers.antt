@@ -1,38 +1,16 @@
 use Rattle.std.proofs.Common.{arith}
 use Rattle.pd_restoring.proofs.EndingLemmas.{resting_short}
-use Rattle.pd_restore.specs.Pools.{ended_state}
 use Rattle.pd_restore.specs.Pools.{shape_content}
-use Rattle.pd_restore.proofs.BeginLemmas.{given, known_failed, known_lacking, known_made, known_refused, known_short, text_given}
 use Rattle.pd_restore.proofs.known.restore_known.Goals as goal
 
 pub returns-then-need-room-clause-made : goal.returns-then-need-room-clause-made
 returns-then-need-room-clause-made g c w gives needs =
     resting_short (shape_content w) c.args.need c.args.room (g.D.Device.state c.args.dev.now) c.requires.here needs c.if-need-room.true
 
-pub returns-in-Ok-clause-made : goal.returns-in-Ok-clause-made
-returns-in-Ok-clause-made g c w gives needs =
-    known_made w c.args.begun gives c.args.need c.args.room (ended_state c.restore_begun.new.source) (g.D.Device.state c.args.dev.now) (g.D.Device.state c.restore_begun.new.dev)
-    c.requires.here needs (omega (arith, c.if-need-room.false)) (c.in-Ok.ensures.restored (given gives.text) (text_given gives.text c.args.begun gives.leaves))
-
-pub returns-in-Memory-clause-made : goal.returns-in-Memory-clause-made
-returns-in-Memory-clause-made g c w gives needs =
-    known_lacking w c.args.begun gives c.args.need c.args.room (ended_state c.restore_begun.new.source) (g.D.Device.state c.args.dev.now) (g.D.Device.state c.restore_begun.new.dev)
-    c.requires.here needs (omega (arith, c.if-need-room.false)) (rw c.in-Memory.is at (c.in-Err.ensures.restored (given gives.text) (text_given gives.text c.args.begun gives.leaves)))
-
-pub returns-in-Device-clause-made : goal.returns-in-Device-clause-made
-returns-in-Device-clause-made g c w gives needs =
-    known_failed w c.args.begun gives c.args.need c.args.room (ended_state c.restore_begun.new.source) (g.D.Device.state c.args.dev.now) (g.D.Device.state c.restore_begun.new.dev)
-    c.requires.here needs (omega (arith, c.if-need-room.false)) (rw c.in-Device.is at (c.in-Err.ensures.restored (given gives.text) (text_given gives.text c.args.begun gives.leaves)))
-
-pub unreachable-requires-in-Text : goal.unreachable-requires-in-Text
-unreachable-requires-in-Text g c =
+pub restore_fitting-requires-clause-some : goal.restore_fitting-requires-clause-some
+restore_fitting-requires-clause-some g c =
     let some = c.requires.some in
-    known_refused some.shape c.args.begun some.gives c.args.need c.args.room (ended_state c.restore_begun.new.source) (g.D.Device.state c.args.dev.now) (g.D.Device.state c.restore_begun.new.dev)
-    c.requires.here some.needs (omega (arith, c.if-need-room.false)) c.in-Text.field-0
-    (rw c.in-Text.is at (c.in-Err.ensures.restored (given some.gives.text) (text_given some.gives.text c.args.begun some.gives.leaves)))
+    record { shape = some.shape; gives = some.gives; fits = omega (arith, some.needs, c.if-need-room.false) }
 
-pub returns-in-NoRoom-clause-made : goal.returns-in-NoRoom-clause-made
-returns-in-NoRoom-clause-made g c w gives needs =
-    absurd (known_short w c.args.begun gives c.args.need c.args.room (ended_state c.restore_begun.new.source) (g.D.Device.state c.args.dev.now) (g.D.Device.state c.restore_begun.new.dev)
-    c.requires.here needs (omega (arith, c.if-need-room.false)) c.in-NoRoom.more c.in-NoRoom.blocks
-    (rw c.in-NoRoom.is at (c.in-Err.ensures.restored (given gives.text) (text_given gives.text c.args.begun gives.leaves))))
+pub returns-clause-made : goal.returns-clause-made
+returns-clause-made g c w gives needs = c.restore_fitting.ensures.made w gives (omega (arith, needs, c.if-need-room.false))

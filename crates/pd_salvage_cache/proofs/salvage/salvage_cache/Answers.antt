@@ -11,3 +11,6 @@ pub returns-clause-saved : goal.returns-clause-saved
 returns-clause-saved g c =
     IfSome_then (g.D.Device.state c.args.dev.now).held c.in_ok-rows.ensures.found (λ image found.
     rw (c.of_parts.ensures, c.head_of.ensures.head) (saved_is c.args.s.now image c.in_ok-rows.rows.items c.in_ok-kept.kept.items c.in_ok-kept.ensures found))
+
+pub returns-clause-unknown : goal.returns-clause-unknown
+returns-clause-unknown g c = IfSome_then (g.D.Device.state c.args.dev.now).held c.in_ok-rows.ensures.unknown (λ image unknown. rw c.of_parts.ensures unknown)

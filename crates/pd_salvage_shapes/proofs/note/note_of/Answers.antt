@@ -1,8 +1,10 @@
-use Rattle.std.proofs.Common.{◌≡◌, false, [], map, refl, sym, ◌∙◌}
+use Rattle.std.proofs.Common.{◌≡◌, false, List, [], map, refl, subst, sym, ◌∙◌}
 use Rattle.std.specs.List.{range_with_len}
 use Rattle.std.proofs.lemmas.Bool.{both_ways, not-false, not-true}
 use Rattle.pd_kinds.specs.Node.{entry_count, is_inner_node}
 use Rattle.pd_laid.specs.Salvage.{is_damaged}
+use Rattle.pd_meaning_thin.specs.declared.joined.Run.{Run}
+use Rattle.pd_salvage.specs.Gather.{HasRuns}
 use Rattle.pd_salvage_shapes.specs.Note.{saved_in}
 use Rattle.pd_salvage_shapes.proofs.NoteLemmas.{entry_at, gathered_mappings, gathered_note, inner_none, leaf_number, none_all, saved_lawful, sized_is, sound_saved}
 use Rattle.pd_salvage_shapes.proofs.note.note_of.Goals as goal
@@ -39,9 +41,10 @@ returns-clause-notes c =
     let block = c.args.block.now.0 in
     let ms = saved_in c.args.blocks c.args.range.now (map (entry_at block) (range_with_len 0 (entry_count 8 block))) in
     let gathered = c.in_ok-gathering.ensures.gathered in
+    let ended = subst (λ (runs : List Run). HasRuns [] runs ms) (sym c.trim.ensures) (c.in_ok-end.ensures [] ms gathered.joining) in
     let sound = not-true (is_damaged 8 c.args.place block) (sym c.if-not-is_sound.ensures) in
     let leaf : is_inner_node block ≡ false = sym c.if-is_inner.ensures in
-    let mappings = gathered_mappings c.end.new.runs c.in_ok-gathering.gathering ms c.gather_leaf.new.runs gathered (c.in_ok-end.ensures [] ms gathered.joining) in
+    let mappings = gathered_mappings c.trim.new.self c.in_ok-gathering.gathering ms c.gather_leaf.new.runs gathered ended in
     record {
       at = refl;
       mappings = mappings ∙ sym (sound_saved c.args.blocks c.args.place block c.args.range.now sound leaf);
@@ -54,7 +57,8 @@ returns-clause-sound c =
     let block = c.args.block.now.0 in
     let ms = saved_in c.args.blocks c.args.range.now (map (entry_at block) (range_with_len 0 (entry_count 8 block))) in
     let gathered = c.in_ok-gathering.ensures.gathered in
+    let ended = subst (λ (runs : List Run). HasRuns [] runs ms) (sym c.trim.ensures) (c.in_ok-end.ensures [] ms gathered.joining) in
     let sound = not-true (is_damaged 8 c.args.place block) (sym c.if-not-is_sound.ensures) in
-    gathered_note c.end.new.runs c.in_ok-gathering.gathering ms c.gather_leaf.new.runs gathered (c.in_ok-end.ensures [] ms gathered.joining)
+    gathered_note c.trim.new.self c.in_ok-gathering.gathering ms c.gather_leaf.new.runs gathered ended
     c.args.blocks _ refl refl refl refl (λ full. sized_is c.in_ok-gathering.gathering.mapped c.entries.result (sym c.is_all-full.ensures ∙ full))
     (saved_lawful c.args.blocks c.args.place block c.args.range.now sound c.in_ok-gathering.ensures.fits)

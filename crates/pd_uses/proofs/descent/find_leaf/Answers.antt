@@ -1,6 +1,4 @@
-use Rattle.std.proofs.Common.{◌≡◌, ◌∙◌, ℕ, List, [], false, true, length, ap, sym, subst}
-use Rattle.std.proofs.lemmas.Bool.{eqb-true}
-use Rattle.std.proofs.lemmas.List.{nil_from_length}
+use Rattle.std.proofs.Common.{◌≡◌, ◌∙◌, ℕ, List, [], false, true, ap, sym, subst}
 use Rattle.pd_kinds.specs.Graph.{block_at}
 use Rattle.pd_kinds.specs.Node.{is_inner_node}
 use Rattle.pd_uses.specs.declared.found.HitNote.TheVariants.{Bare}
@@ -15,8 +13,7 @@ pub returns-then-is_empty : goal.returns-then-is_empty
 returns-then-is_empty c = λ image is right.
     let region = c.args.wanted.region in
     let hits : List Hit = hits_in region c.args.block.now.0 in
-    let empty : length c.as_slice.result.now ≡ 0 = eqb-true (length c.as_slice.result.now) 0 (sym c.is_empty.ensures ∙ c.if-is_empty.true) in
-    let none : hits ≡ [] = sym (c.as_slice.ensures ∙ c.in_ok-hits.ensures) ∙ nil_from_length c.as_slice.result.now empty in
+    let none : hits ≡ [] = sym c.in_ok-hits.ensures ∙ c.is_empty.ensures c.if-is_empty.true in
     let plain : is_inner_node (block_at image c.args.b) ≡ false = ap is_inner_node is ∙ c.requires in
     finds_noted region image c.args.wanted.id c.args.b (Bare 4294967295) hits (finds_nothing region image c.args.wanted.id hits false none right) c.set_note.ensures
     (λ j nearer. below_leaf region image j c.args.b plain ∙ (ap (hits_in region) is ∙ none))

@@ -11,6 +11,6 @@ pub loop-i-preserved : goal.loop-i-preserved
 loop-i-preserved c =
     let block = c.args.block.now.0 in
     let hit : BlockTime → ℕ → Hit = λ mapping virt. record { block = mapping.block; virt = virt } in
-    c.in_ok-add_hit.ensures
+    c.in_ok-join_hit.ensures
     ∙ (ap (λ (hits : List Hit). hits ++ filter (is_hit c.args.region) (hit c.value.result c.key.result ∷ [])) c.loop-i.invariant
     ∙ sym (hits_more c.args.region (λ i. (key_at block i, block_time_of (value_at 8 block i))) c.loop-i.i (hit c.value.result c.key.result) (ap₂ hit c.value.ensures.value c.key.ensures)))

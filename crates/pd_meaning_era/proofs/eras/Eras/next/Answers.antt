@@ -2,7 +2,7 @@ use Rattle.std.proofs.Common.{◌≡◌, ◌∙◌, ◌*◌, ◌+◌, ◌-◌, �
 use Rattle.std.specs.List.{range_with_len}
 use Rattle.std.proofs.lemmas.List.{nil_from_length}
 use Rattle.pd_kinds.proofs.ResultLemmas.{if_any, if_three}
-use Rattle.pd_tree.specs.Cursor.{array_words}
+use Rattle.pd_meaning_era.specs.EraWords.{era_words}
 use Rattle.pd_meaning_era.specs.Parts.{blocks_left}
 use Rattle.pd_meaning_era.specs.Notes.{RaisesRows}
 use Rattle.pd_meaning_era.proofs.PartLemmas.{blocks_left_is, length_left, takes_part}
@@ -26,7 +26,7 @@ returns-clause-next g c =
     let whole : count < blocks_left old → 64 * (old.next + c.div_ceil.result) ≡ 64 * old.next + count = λ more. omega (arith, is, more, c.div_ceil.ensures) in
     let left : count + (old.blocks - 64 * (old.next + c.div_ceil.result)) ≡ blocks_left old = omega (arith, is, c.div_ceil.ensures) in
     if_three (g.D.Device.state c.args.dev.now).held
-    (λ image. first ≡ map (λ i. get_or (array_words image old.words) i 0) (range_with_len 0 count)) (λ image. array_words image c.fill_part.new.words ≡ drop count (array_words image old.words))
+    (λ image. first ≡ map (λ i. get_or (era_words image old.words) i 0) (range_with_len 0 count)) (λ image. era_words image c.fill_part.new.words ≡ drop count (era_words image old.words))
     (λ image. RaisesRows image old.next old.rows.items first c.raise_part.new.part.items) _
     (λ image words rest raised. takes_part image old _ count first refl number most whole left filled words rest raised)
     c.in_ok-fill_part.ensures.words c.in_ok-fill_part.ensures.left

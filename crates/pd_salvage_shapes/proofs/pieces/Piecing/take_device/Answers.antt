@@ -1,53 +1,58 @@
-use Rattle.std.proofs.Common.{◌≡◌, ℕ, ◌++◌, List, Some, None, cond, get_or, length, take, refl, sym, ap, subst, ◌∙◌, arith}
+use Rattle.std.proofs.Common.{◌≡◌, ℕ, ◌++◌, ◌∷◌, [], List, get_or, length, take, refl, sym, ap, subst, ◌∙◌, arith}
 use Rattle.std.specs.List.{slice_get}
-use Rattle.std.proofs.lemmas.List.{length-append, take_all}
-use Rattle.std.proofs.lemmas.Option.{slice_get-get_or}
+use Rattle.std.proofs.lemmas.List.{length-append, take_all, take_more}
 use Rattle.pd_salvage_shapes.specs.Note.{Met}
+use Rattle.pd_salvage_shapes.specs.Once.{KeepsOthers}
 use Rattle.pd_salvage_shapes.specs.Pieces.{AreNumbers, HasPieces, IsPiecing}
-use Rattle.pd_salvage_shapes.specs.Visiting.{mets_of}
-use Rattle.pd_salvage_shapes.proofs.MetPieces.{begins, has_pieces, some_met}
-use Rattle.pd_salvage_shapes.proofs.LeafTable.{mets_next}
+use Rattle.pd_salvage_shapes.specs.Visiting.{mets_at, mets_of}
+use Rattle.pd_salvage_shapes.proofs.MetPieces.{begins, has_pieces}
+use Rattle.pd_salvage_shapes.proofs.OnceLemmas.{kept_more, kept_none, mets_step, unspent}
 use Rattle.pd_salvage_shapes.proofs.pieces.Piecing.take_device.Goals as goal
 
 pub loop-k-init : goal.loop-k-init
 loop-k-init c = record {
   piecing = λ ones are. begins ones c.args.self.now.pieces.items c.args.self.now.runs c.args.self.now c.requires.idle refl refl;
+  others = kept_none c.args.times.now c.args.notes.now;
+  sized = c.requires.sized;
 }
 
-pub number_of-number-requires : goal.number_of-number-requires
-number_of-number-requires c =
-    let notes = c.args.notes.now in
-    let k = get_or c.args.met.now c.loop-k.k-index 0 in
-    let note = c.index-notes-k.result in
-    let at : slice_get notes k ≡ Some note = slice_get-get_or notes k note (c.requires.within c.loop-k.k-index (omega arith)) ∙ ap Some (sym c.index-notes-k.is) in
-    c.requires.sized.within k note at
+pub take_at-requires : goal.take_at-requires
+take_at-requires c = record {
+  sized = c.loop-k.invariant.sized;
+  within =
+      let number = c.loop-k.invariant.others.number in
+      let within = c.requires.within c.loop-k.k-index (omega arith) in
+      omega arith;
+}
 
-pub take_met-requires : goal.take_met-requires
-take_met-requires c =
-    let notes = c.args.notes.now in
-    let k = get_or c.args.met.now c.loop-k.k-index 0 in
-    let note = c.index-notes-k.result in
-    let at : slice_get notes k ≡ Some note = slice_get-get_or notes k note (c.requires.within c.loop-k.k-index (omega arith)) ∙ ap Some (sym c.index-notes-k.is) in
-    c.requires.sized.runs k note at
+pub forget_once-requires : goal.forget_once-requires
+forget_once-requires c =
+    let number = c.loop-k.invariant.others.number in
+    let within = c.requires.within c.loop-k.k-index (omega arith) in
+    omega arith
 
 pub loop-k-preserved : goal.loop-k-preserved
 loop-k-preserved c =
-    let notes = c.args.notes.now in
+    let first = c.args.notes.now in
+    let notes = c.loop-k.notes in
     let met = c.args.met.now in
+    let times = c.args.times.now in
     let i = c.loop-k.k-index in
     let k = get_or met i 0 in
-    let note = c.index-notes-k.result in
-    let at : slice_get notes k ≡ Some note = slice_get-get_or notes k note (c.requires.within i (omega arith)) ∙ ap Some (sym c.index-notes-k.is) in
-    let number = c.number_of-number.ensures in
+    let still : slice_get notes k ≡ slice_get first k = c.loop-k.invariant.others.same k (unspent times met i c.requires.once (omega arith)) in
     record {
       piecing = λ ones are.
-          subst (λ (ms : List Met). IsPiecing ones c.args.self.now.pieces.items c.args.self.now.runs c.take_met.new.self ms) (sym (mets_next notes met i note (omega arith) at))
-          (c.in_ok-take_met.ensures ones c.args.self.now.pieces.items c.args.self.now.runs (mets_of notes (take i met)) (cond note.full (Some note.block) None) (number.number ones are)
-          (some_met note c.number_of-number.result number.whole (c.requires.sized.some k note at)) (c.loop-k.invariant.piecing ones are));
+          subst (λ (ms : List Met). IsPiecing ones c.args.self.now.pieces.items c.args.self.now.runs c.take_at.new.self ms)
+          (ap (λ o. mets_of first (take i met) ++ mets_at o) still ∙ sym (mets_step first met i (omega arith)))
+          (c.in_ok-take_at.ensures ones c.args.self.now.pieces.items c.args.self.now.runs (mets_of first (take i met)) are (c.loop-k.invariant.piecing ones are));
+      others =
+          subst (λ (ks : List ℕ). KeepsOthers times ks first c.forget_once.new.notes) (sym (take_more met i 0 (omega arith)))
+          (kept_more times (take i met) (k ∷ []) first notes c.forget_once.new.notes c.loop-k.invariant.others c.forget_once.ensures.others);
+      sized = c.forget_once.ensures.sized (length c.args.numbers.now) c.loop-k.invariant.sized;
     }
 
-pub returns : goal.returns
-returns c =
+pub returns-clause-takes : goal.returns-clause-takes
+returns-clause-takes c =
     let old = c.args.self.now in
     let met = c.args.met.now in
     let notes = c.args.notes.now in
@@ -62,3 +67,7 @@ returns c =
           let lengths = ap length pieces.pieces_are ∙ length-append old.pieces.items pieces.given in
           omega (arith, lengths, c.len.ensures, c.len-before.ensures, c.saturating_sub.ensures);
     }
+
+pub returns-clause-others : goal.returns-clause-others
+returns-clause-others c =
+    subst (λ (ks : List ℕ). KeepsOthers c.args.times.now ks c.args.notes.now c.loop-k.notes) (take_all c.loop-k.k-index c.args.met.now (omega arith)) c.loop-k.invariant.others

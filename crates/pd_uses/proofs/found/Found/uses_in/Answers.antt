@@ -22,9 +22,9 @@ loop-visit-preserved c =
     let i = c.loop-visit.visit-index in
     let none : Visit = record { id = 0; leaf = 0 } in
     let visit = get_or visits i none in
-    c.in_ok-add_uses.ensures
+    c.in_ok-add_part_uses.ensures
     ∙ (ap₂ (λ (xs ys : List DataUse). xs ++ ys) c.loop-visit.invariant
-    (ap (map (use_of visit.id)) (c.hits_of-hits.ensures ∙ ap (λ (parts : List LeafPart). hits_at leaves parts visit.leaf) c.as_slice-in-loop-visit.ensures.value))
+    (ap (λ (parts : List LeafPart). map (use_of visit.id) (hits_at leaves parts visit.leaf)) c.as_slice-in-loop-visit.ensures.value)
     ∙ sym (ap (λ (some : List Visit). filter (is_within region.first region.end) (visits_uses leaves some)) (take_more visits i none c.loop-visit-test.true)
     ∙ visits_more region leaves c.in_ok-parts.parts.items (take i visits) visit c.in_ok-parts.ensures))
 

@@ -1,9 +1,9 @@
 use Rattle.std.proofs.Common.{◌≡◌, List, filter, subst}
 use Rattle.pd_uses.specs.declared.hits.Hit.{Hit}
-use Rattle.pd_uses.specs.Hits.{is_hit}
+use Rattle.pd_uses.specs.Hits.{is_hit, runs_hits}
 use Rattle.pd_uses.proofs.HitLemmas.{all_inside}
 use Rattle.pd_uses.proofs.hits.LeafHits.is_inside.Goals as goal
 
 pub returns : goal.returns
 returns c = λ inside. subst (λ (hits : List Hit). filter (is_hit c.args.region) hits ≡ hits) c.self.view_is
-    (all_inside c.args.region c.self.inside.span c.self.inside.hits.items c.self.invariant inside)
+    (all_inside c.args.region c.self.inside.span (runs_hits c.self.inside.runs.items) c.self.invariant inside)

@@ -1,0 +1,4 @@
+pub mod DamagedStates
+pub mod Kept
+pub mod Known
+pub mod Top
