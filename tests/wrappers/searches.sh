@@ -59,14 +59,18 @@ for name in lost leak damaged details leaf; do
     same out listed.txt
     sed -n '1s/ devices [0-9]* mappings \([0-9]*\) transaction [0-9]* / mappings \1 /p' listed.txt >lines
     same lines found.txt
-    sed '/^roots /d' listed.txt >told.txt
+    grep -v -e '^roots ' -e '^damaged ' -e '^more ' listed.txt >told.txt
     tells told.txt dumped.txt
     ! grep -E ' lost | of \?$' told.txt || bad 'something of the first state is lost'
-    # each mapping tree once, 100 at most, and the latest first
-    grep '^roots ' listed.txt >states.txt
-    [ "$(wc -l <states.txt)" -le 100 ] || bad 'too many states'
-    ! cut -d ' ' -f 2 states.txt | sort | uniq -d | grep . || bad 'a mapping tree stands twice'
-    awk 'NR > 1 && ($11 > time || ($11 == time && $9 > transaction)) { exit 1 } { time = $11; transaction = $9 }' states.txt || bad 'no order'
+    # each mapping tree once, whole or damaged, 100 of a kind at most, the whole ones first, and of each kind the latest first
+    ! grep -E '^(roots|damaged) ' listed.txt | cut -d ' ' -f 2 | sort | uniq -d | grep . || bad 'a mapping tree stands twice'
+    awk '$1 == "damaged" { damaged = 1 } damaged && $1 == "roots" { exit 1 }' listed.txt || bad 'a whole state stands behind a damaged one'
+    for kind in damaged roots; do
+        grep "^$kind " listed.txt >states.txt
+        [ "$(wc -l <states.txt)" -le 100 ] || bad 'too many states'
+        awk 'NR > 1 && ($11 > time || ($11 == time && $9 > transaction)) { exit 1 } { time = $11; transaction = $9 }' states.txt ||
+            bad 'no order'
+    done
     read -r _ top details _ <states.txt
     roots=$(roots_at "$top" "$details")
     try 0 thin_repair --dry-run -i $name.img $roots $given
@@ -118,11 +122,15 @@ for name in leak damaged details leaf; do
     mv out told.txt
     try 0 thin_repair --dry-run -i $name.img $roots $given
     same out told.txt
-    # a damaged state isn't listed
+    # a damaged state is listed as one, if the root of its mappings is there, and they are damaged below it
     try 0 thin_repair --dry-run -i $name.img $given
     case $name in
     leak) grep -q "^roots $(roots_in $name.img) " out || bad "it isn't listed" ;;
-    *) ! grep -q "^roots $(roots_in $name.img) " out || bad 'it is listed' ;;
+    *) ! grep -q "^roots $(roots_in $name.img) " out || bad 'it is listed as a whole one' ;;
+    esac
+    case $name in
+    leaf) grep -q "^damaged $(number_in leaf.img 8 320) " out || bad "it isn't listed as a damaged one" ;;
+    *) ! grep -q "^damaged $(number_in $name.img 8 320) " out || bad 'it is listed as a damaged one' ;;
     esac
     zeros fresh.img 1024
     try 0 pdata_tools thin_repair -i $name.img -o fresh.img

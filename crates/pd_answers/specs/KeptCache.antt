@@ -1,6 +1,6 @@
 -- Trusted base.
 -- What a repair keeps of a cache, and what it would keep, as it is told before it is made.
-use Rattle.std.specs.Prelude.{ℕ, List, [], ◌∷◌, ◌++◌, length, count_by, Option, codes, decimal}
+use Rattle.std.specs.Prelude.{ℕ, List, [], ◌∷◌, ◌++◌, length, count_by, codes, decimal}
 use Rattle.std.specs.List.{flat_map}
 use Rattle.std.specs.Option.{unwrap_or}
 use Rattle.pd_kinds.specs.CacheFormat.{CacheFields, cache_fields}

@@ -1,6 +1,8 @@
 pub mod Terms
 pub mod Outputs
 pub mod Repairs
+pub mod FoundStates
+pub mod DamagedStates
 pub mod Searches
 pub mod NamedRepairs
 pub mod Shrinks

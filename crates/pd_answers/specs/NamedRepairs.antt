@@ -1,20 +1,22 @@
 -- Trusted base.
 -- The terms of a repair from roots that are named, and of what a repair without a superblock would keep.
 -- Roots that are named where the superblock is lost, or isn't to be used: from which superblock is saved what stands below them.
--- The states of a pool whose superblock is lost, to choose from: for each mapping tree that has one, the best details tree that
--- fits it.
-use Rattle.std.specs.Prelude.{ℕ, ◌+◌, ◌-◌, ◌^◌, max, min, Bool, if◌then◌else◌, List, fold, is_none, [], ◌∷◌, ◌++◌, length, map, filter, take, codes, decimal, Option, Some, None, ◌≡◌, true, false, IfSome}
-use Rattle.std.specs.List.{list_any, flat_map, filter_map, range_with_len}
+-- The text of the states of a pool whose superblock is lost, to choose from.
+use Rattle.std.specs.Prelude.{ℕ, ◌+◌, ◌-◌, ◌^◌, max, min, Bool, if◌then◌else◌, List, fold, is_none, [], ◌∷◌, ◌++◌, length, nat_lt, take, codes, decimal, Option, Some, None, ◌≡◌, true, false, IfSome}
+use Rattle.std.specs.List.{list_any, flat_map}
+use Rattle.std.specs.Option.{option_map}
 use Rattle.pd_kinds.specs.Meaning.{ThinDevice, ThinPool}
 use Rattle.pd_kinds.specs.ThinFormat.{ThinFields}
 use Rattle.pd_kinds.specs.Graph.{Graph}
-use Rattle.pd_laid.specs.FoundRoots.{lost_graph, times_of, FoundRoots, are_fitting, devices_below, is_better, roots_at}
+use Rattle.pd_laid.specs.FoundRoots.{lost_graph, times_of, FoundRoots, devices_below}
 use Rattle.pd_laid.specs.Salvage.{salvage_from, saved_shape_from}
 use Rattle.pd_laid.specs.Shape.{ThinShape}
 use Rattle.pd_answers.specs.declared.request.GivenSuper.{GivenSuper}
 use Rattle.pd_answers.specs.declared.request.NamedRoots.{NamedRoots}
 use Rattle.pd_answers.specs.KeptLines.{found_mapped, told_from, told_text}
-use Rattle.pd_answers.specs.Searches.{found_fields, raised_time, no_roots_line, seen, timed_pool, timed_shape}
+use Rattle.pd_answers.specs.FoundStates.{states, found_fields}
+use Rattle.pd_answers.specs.DamagedStates.{damaged_states, kept_devices}
+use Rattle.pd_answers.specs.Searches.{raised_time, no_roots_line, seen, timed_pool, timed_shape}
 use Rattle.pd_answers.specs.Terms.{Answer, reading, any_reads, Terms, unnamed, nothing}
 use Rattle.pd_answers.specs.Repairs.{Saved, repair_by}
 
@@ -46,34 +48,6 @@ named_fields image given named =
     let fields = timeless_fields image given named in
     record fields { time = saved_time fields image }
 
--- the better ones of some roots and of the best of others, if there are any
-abbrev pub better_of_two : FoundRoots → Option FoundRoots → FoundRoots
-better_of_two roots None = roots
-better_of_two roots (Some best) = if is_better best roots then best else roots
-
--- the best of some roots
-abbrev pub best_of : List FoundRoots → Option FoundRoots
-best_of [] = None
-best_of (roots ∷ others) = Some (better_of_two roots (best_of others))
-
--- the best of the roots whose mapping tree is this one, among all details trees that fit it
-unfoldable pub best_for : Graph → List (List ℕ) → ℕ → Option FoundRoots
-best_for graph image top = best_of (map (roots_at graph image top) (filter (are_fitting graph image top) (range_with_len 0 graph.nr)))
-
--- some roots in their place among others, the better ones first
-abbrev pub placed : FoundRoots → List FoundRoots → List FoundRoots
-placed roots [] = roots ∷ []
-placed roots (first ∷ others) = if is_better roots first then roots ∷ first ∷ others else first ∷ placed roots others
-
--- roots in order, the best first
-abbrev pub in_order : List FoundRoots → List FoundRoots
-in_order [] = []
-in_order (roots ∷ others) = placed roots (in_order others)
-
--- the states to choose from: the 100 best ones, in order
-unfoldable pub states : Graph → List (List ℕ) → List FoundRoots
-states graph image = take 100 (in_order (filter_map (best_for graph image) (range_with_len 0 graph.nr)))
-
 -- the line of a state: its roots, and what stands below them
 abbrev pub state_line : Graph → List (List ℕ) → FoundRoots → List ℕ
 state_line graph image roots =
@@ -102,16 +76,43 @@ abbrev pub repair_named : Bool → List ℕ → List ℕ → GivenSuper → Name
 repair_named shared from to given named =
     repair_by (λ image. []) (0 ∷ 4 ∷ 5 ∷ 7 ∷ []) shared (λ image. saved_from_named shared image given named) from to
 
--- the text of the states to choose from, and of what would be kept of the first one; without a state there is none
-abbrev pub text_of_states : List (List ℕ) → GivenSuper → List FoundRoots → Option (List ℕ)
-text_of_states image given [] = None
-text_of_states image given (best ∷ others) =
+-- the line of a damaged state: its roots, and what would be kept of them
+abbrev pub damaged_line : Graph → List (List ℕ) → FoundRoots → List ℕ
+damaged_line graph image roots =
+    codes "damaged " ++ (decimal roots.top ++ (codes " " ++ (decimal roots.details
+    ++ (codes " devices " ++ (decimal (length (kept_devices graph image roots.top roots.details))
+    ++ (codes " mappings " ++ (decimal roots.mappings ++ (codes " transaction " ++ (decimal roots.transaction
+    ++ (codes " time " ++ (decimal roots.time ++ (10 ∷ []))))))))))))
+
+-- how many of so many states are left out, if there are more than 100
+abbrev pub more_line : ℕ → List ℕ
+more_line number = if nat_lt 100 number then codes "more " ++ (decimal (number - 100) ++ (10 ∷ [])) else []
+
+-- the lines of the first 100 states, and how many more there are
+abbrev pub list_of_states : (FoundRoots → List ℕ) → List FoundRoots → List ℕ
+list_of_states line found = flat_map line (take 100 found) ++ more_line (length found)
+
+-- the first of the sound states, and where there is none of the damaged ones
+abbrev pub best_state : List FoundRoots → List FoundRoots → Option FoundRoots
+best_state [] [] = None
+best_state [] (best ∷ others) = Some best
+best_state (best ∷ others) damaged = Some best
+
+-- the text of the states to choose from, the sound ones before the damaged ones, and of what would be kept of the best one;
+-- without a state there is none
+abbrev pub text_of_states : List (List ℕ) → GivenSuper → List FoundRoots → List FoundRoots → Option (List ℕ)
+text_of_states image given sound damaged =
     let graph = lost_graph image given.blocks in
-    Some (flat_map (state_line graph image) (best ∷ others) ++ told_text (told_from (found_fields graph given.transaction given.block_size best) image))
+    option_map
+    (λ best. list_of_states (state_line graph image) sound ++ (list_of_states (damaged_line graph image) damaged
+    ++ told_text (told_from (found_fields graph given.transaction given.block_size best) image)))
+    (best_state sound damaged)
 
 -- what would be kept of the roots that are named, or of those that a search finds, if it finds any
 abbrev pub text_without_super : Option NamedRoots → GivenSuper → List (List ℕ) → Option (List ℕ)
-text_without_super None given image = text_of_states image given (states (lost_graph image given.blocks) image)
+text_without_super None given image =
+    let graph = lost_graph image given.blocks in
+    text_of_states image given (states graph image) (damaged_states graph image)
 text_without_super (Some named) given image = Some (told_text (told_from (named_fields image given named) image))
 
 -- without a text there are no roots

@@ -1,7 +1,7 @@
 -- Trusted base.
 -- The terms of a repair of a pool, without the leaves that its devices share, or with them.
 -- The terms of a repair of a cache.
-use Rattle.std.specs.Prelude.{◌≡◌, ℕ, Bool, true, false, not, ◌==◌, if◌then◌else◌, List, [], ◌∷◌, IfSome, ◌≢◌, ◌+◌, ◌≤◌, length, Option}
+use Rattle.std.specs.Prelude.{◌≡◌, ℕ, Bool, true, false, not, ◌==◌, if◌then◌else◌, List, [], ◌∷◌, IfSome, ◌≢◌, ◌+◌, ◌≤◌, Option}
 use Rattle.std.specs.Option.{unwrap_or}
 use Rattle.pd_kinds.specs.declared.rule.Fault.{Fault}
 use Rattle.pd_kinds.specs.declared.kind.Kind.TheVariants.{Thin, Cache}

@@ -4,14 +4,15 @@
 -- A pool in which sharing is seen: what a search and a repair from named roots write. A kernel copies a data block before a write to a
 -- device where the device was snapped after the mapping there was made; else it writes to the block in place. So each device is
 -- snapped after those of its mappings whose data blocks other mappings lead to.
-use Rattle.std.specs.Prelude.{ℕ, List, [], ◌∷◌, ◌++◌, codes, decimal, ◌+◌, max, min, ◌==◌, Bool, true, false, nat_lt, map, filter, fold, count_by, ◌≡◌, ◌≢◌, Option, Some, None, IfSome, replicate}
+use Rattle.std.specs.Prelude.{ℕ, List, [], ◌∷◌, ◌++◌, codes, decimal, ◌+◌, max, min, ◌==◌, Bool, true, false, nat_lt, map, filter, fold, count_by, ◌≡◌, ◌≢◌, Option, Some, None, IfSome, length, if◌then◌else◌}
 use Rattle.pd_kinds.specs.Meaning.{Mapping, ThinDevice, ThinPool}
 use Rattle.pd_kinds.specs.Graph.{Graph}
-use Rattle.pd_kinds.specs.ThinFormat.{ThinFields}
 use Rattle.pd_grammar.specs.Need.{mapped_data}
 use Rattle.pd_laid.specs.FoundRoots.{FoundRoots, lost_graph, IsFound, found_pool}
 use Rattle.pd_laid.specs.Shape.{ShapeDevice, ThinShape, device_of, pool_of}
 use Rattle.pd_laid.specs.Salvage.{saved_shape_from}
+use Rattle.pd_answers.specs.DamagedStates.{damaged_states}
+use Rattle.pd_answers.specs.FoundStates.{found_fields}
 use Rattle.pd_answers.specs.Repairs.{Saved, saved_making}
 use Rattle.pd_answers.specs.Terms.{Answer, Objects, reading, writing, any_reads, Terms, unnamed}
 use Rattle.pd_answers.specs.Outputs.{Lays, Making, making_answer, IsRoom, LeavesMadeFirst}
@@ -22,9 +23,12 @@ roots_line roots =
     codes "roots " ++ (decimal roots.top ++ (codes " " ++ (decimal roots.details ++ (codes " mappings "
     ++ (decimal roots.mappings ++ (codes " time " ++ (decimal roots.time ++ (10 ∷ []))))))))
 
--- the line where there are none
+-- the line where there are none, and where there are only damaged ones
 abbrev pub no_roots_line : List ℕ
 no_roots_line = codes "pdata_tools: no roots" ++ (10 ∷ [])
+
+abbrev pub only_damaged_line : List ℕ
+only_damaged_line = codes "pdata_tools: no roots, but damaged ones" ++ (10 ∷ [])
 
 -- a mapping is shared where these data blocks of all mappings have its own twice or more
 abbrev pub is_shared : List ℕ → Mapping → Bool
@@ -104,45 +108,26 @@ abbrev pub timed : (shared : Bool) → ℕ → Saved shared → Saved shared
 timed false = timed_pool
 timed true = timed_shape
 
--- what a search finds: the best roots, if there are any, what is saved from them, and how many blocks there are for it
+-- what a search finds: the best roots, if there are any, what is saved from them, and how many blocks there are for it; and
+-- where there are no roots, whether there are damaged states
 pub record Searched (S : Type 0) : Type 0 where
   pub roots : Option FoundRoots
+  pub are_damaged : Bool
   pub saved : S
   pub room : ℕ
 
 -- a search puts a line with the roots after its work; else, to `notes`, that there are none, or what was needed
-abbrev pub search_answer : Making → Option FoundRoots → ℕ → Answer
-search_answer making None room = record { status = 1; out = []; notes = no_roots_line }
-search_answer making (Some roots) room = making_answer making room (roots_line roots)
+abbrev pub search_answer : Making → Option FoundRoots → Bool → ℕ → Answer
+search_answer making None are_damaged room = record { status = 1; out = []; notes = if are_damaged then only_damaged_line else no_roots_line }
+search_answer making (Some roots) are_damaged room = making_answer making room (roots_line roots)
 
 abbrev pub searched_answer : {S : Type 0} → (S → Making) → Searched S → Answer
-searched_answer making searched = search_answer (making searched.saved) searched.roots searched.room
+searched_answer making searched = search_answer (making searched.saved) searched.roots searched.are_damaged searched.room
 
 -- what a search leaves of its output
 abbrev pub LeavesFound : {S : Type 0} → (S → Making) → Searched S → Objects → Objects → ℕ → Type 0
 LeavesFound making searched before after status =
     LeavesMadeFirst (Lays (searched_answer making searched) (making searched.saved) searched.room) (searched_answer making searched).status before after status
-
--- the superblock of found roots: its uuid is zeros, its time the latest one below them, and what isn't given is 0
-abbrev pub found_fields : Graph → ℕ → ℕ → FoundRoots → ThinFields
-found_fields graph transaction block_size roots = record {
-  flags = 0;
-  uuid = replicate 16 0;
-  version = 2;
-  time = roots.time;
-  transaction = transaction;
-  held_root = 0;
-  data_map = record { blocks = graph.data_blocks; allocated = 0; bitmap_root = 0; overflow_root = 0 };
-  meta_map = record { blocks = graph.nr; allocated = 0; bitmap_root = 0; overflow_root = 0 };
-  mapping_root = roots.top;
-  details_root = roots.details;
-  block_size = block_size;
-  meta_block_size = 0;
-  meta_blocks = 0;
-  compat = 0;
-  compat_ro = 0;
-  incompat = 0;
-}
 
 -- the shape of the found pool: with the leaves that its devices share
 unfoldable pub found_shape : Graph → List (List ℕ) → ℕ → ℕ → FoundRoots → ThinShape
@@ -157,6 +142,10 @@ found_from true = found_shape
 abbrev pub saved_from : (shared : Bool) → Graph → List (List ℕ) → ℕ → ℕ → FoundRoots → Saved shared
 saved_from shared graph image transaction block_size roots = seen shared (found_from shared graph image transaction block_size roots)
 
+-- there are some states
+abbrev pub are_some : List FoundRoots → Bool
+are_some found = nat_lt 0 (length found)
+
 -- a search is a repair in which block 0 isn't looked at: its roots are found, and its numbers are given
 abbrev pub search : Bool → List ℕ → List ℕ → ℕ → ℕ → ℕ → Terms
 search shared from to transaction block_size blocks = record {
@@ -164,7 +153,8 @@ search shared from to transaction block_size blocks = record {
   Finding = Searched (Saved shared);
   finds = λ before after searched. IsRoom before.output after.output searched.room
       × IfSome before.input.held (λ image. IsFound (lost_graph image blocks) image searched.roots
-      × IfSome searched.roots (λ roots. searched.saved ≡ saved_from shared (lost_graph image blocks) image transaction block_size roots));
+      × (IfSome searched.roots (λ roots. searched.saved ≡ saved_from shared (lost_graph image blocks) image transaction block_size roots)
+      × (searched.roots ≡ None → searched.are_damaged ≡ are_some (damaged_states (lost_graph image blocks) image))));
   answer = searched_answer (saved_making shared);
   statuses = 0 ∷ 1 ∷ 4 ∷ 5 ∷ 7 ∷ [];
   memory = λ before. Unit {0};

@@ -4,10 +4,8 @@ use Rattle.std.specs.Prelude.{ℕ, ◌-◌, ◌^◌, List, [], ◌∷◌, codes}
 use Rattle.pd_kinds.specs.declared.kind.Kind.TheVariants.{Thin, Cache, Era}
 use Rattle.pd_answers.specs.declared.tool.Need.{Need}
 use Rattle.pd_answers.specs.declared.tool.Need.TheVariants.{Flag, Mark, Wanted, Optional}
-use Rattle.pd_answers.specs.declared.tool.Tool.{Tool}
 use Rattle.pd_answers.specs.declared.tool.Tool.TheVariants.{Check, Dump, Restore, Repair, Search, NamedRepair, DryRepair, DrySearch, DryNamed, RepairCache, DryRepairCache, ReverseMap, DeviceList, Unused, Since, Generate, Rehearse, Writeback, Shrink}
 use Rattle.pd_answers.specs.declared.tool.ToolWords.{ToolWords as ToolWordsOf}
-use Rattle.pd_answers.specs.declared.tool.Value.{Value}
 use Rattle.pd_answers.specs.declared.tool.Value.TheVariants.{File, Device, Stage, Version, Region, UpTo, Generated}
 use Rattle.pd_answers.specs.declared.tool.Word.{Word as WordOf}
 

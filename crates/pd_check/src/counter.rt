@@ -49,7 +49,7 @@ impl RefCounter {
     /// shown.
     ///
     /// Fails with `AllocError` where memory wasn't found on the way.
-    pub fn counts(self) -> Result<Counts, AllocError>
+    pub fn counts(mut self) -> Result<Counts, AllocError>
         ensures counted { IfOk result (λ counts. (graph : Graph) (image : List (List ℕ)) → HasSeen self graph image (is_reached graph image)
             → HasDataCounts counts graph image) }
         ensures size { IfOk result (λ counts. counts.size ≡ data_blocks_of self) }
@@ -58,6 +58,7 @@ impl RefCounter {
         if self.lacks_memory {
             return Err(AllocError);
         }
+        self.counts.settle();
         Ok(self.counts)
     }
 }
@@ -114,7 +115,7 @@ fn add_ref(counts: &mut Counts, d: u64) -> Result<(), AllocError>
         → HasCounted counts.new (before ++ d ∷ [])) }
 {
     if d < counts.size() {
-        counts.saturating_add(d)?;
+        counts.note(d)?;
     }
     Ok(())
 }

@@ -1,5 +1,5 @@
 -- The numbers that a chunk shows, by its form.
-use Rattle.std.proofs.Common.{◌≡◌, ℕ, ◌+◌, ◌<◌, ◌≤◌, Bool, true, not, eqb, List, [], ◌∷◌, Option, None, Some, MatchOption, Result, Ok, Err, OnOk, length, map, take, get_or, inl, inr, refl, sym, ◌∙◌, ap, subst, arith, ◌≢◌, ◌*◌, ◌/◌, ◌%◌, false, cond, drop, set, ap₂, get_or-set_same, get_or-set_other, length-drop, length-set}
+use Rattle.std.proofs.Common.{◌≡◌, ℕ, ◌+◌, ◌<◌, ◌≤◌, Bool, true, not, eqb, List, [], ◌∷◌, Option, None, Some, MatchOption, Result, Ok, Err, OnOk, OnErr, length, map, take, get_or, inl, inr, refl, sym, ◌∙◌, ap, subst, arith, ◌≢◌, ◌*◌, ◌/◌, ◌%◌, false, cond, drop, set, ap₂, get_or-set_same, get_or-set_other, length-drop, length-set}
 use Rattle.std.specs.List.{count_by, range_with_len}
 use Rattle.std.proofs.lemmas.Bool.{cases_lt}
 use Rattle.std.proofs.lemmas.Bool.Decides.{nat_tests}
@@ -8,8 +8,9 @@ use Rattle.std.proofs.lemmas.List.FromFn.{get_or-map-range_with_len, length-map-
 use Rattle.std.specs.Int.{from_bool}
 use Rattle.pd_count.specs.declared.few.Entry.{Entry}
 use Rattle.pd_count.specs.declared.chunk.Form.{Form}
-use Rattle.pd_count.specs.declared.chunk.Form.TheVariants.{Few, Dense}
-use Rattle.pd_count.specs.Counted.{PutsAt, Puts, digits_number, entered, few_numbers, form_numbers, numbers_by}
+use Rattle.pd_count.specs.declared.chunk.Form.TheVariants.{Few, Dense, Waiting}
+use Rattle.pd_count.specs.declared.waiting.WaitingPlaces.{WaitingPlaces}
+use Rattle.pd_count.specs.Counted.{PutsAt, Puts, digits_number, entered, few_numbers, form_numbers, numbers_by, waiting_number, HaveSameNumbers}
 
 pub size_by : (n : ℕ) (f : ℕ → ℕ) → length (numbers_by n f) ≡ n
 unfolding numbers_by
@@ -35,6 +36,7 @@ few_shows (e ∷ l) = shows_by 16320 (entered (e ∷ l))
 pub form_past : (form : Form) (k : ℕ) → 16320 ≤ k → get_or (form_numbers form) k 0 ≡ 0
 form_past (Few entries) k past = (few_shows entries.items).past k past
 form_past (Dense digits) k past = (shows_by 16320 (digits_number digits.items)).past k past
+form_past (Waiting waiting) k past = (shows_by 16320 (waiting_number waiting.value)).past k past
 
 -- what was put shows
 pub puts_shown : (at number n : ℕ) (old new : List ℕ) (f g : ℕ → ℕ) → n ≡ 16320 → at < n → Shows n old f → Shows n new g → Puts at number f g → PutsAt at number old new
@@ -60,6 +62,10 @@ shown_few numbers items read is same = rw (is, same) (few_shows items)
 
 pub shown_dense : (numbers items read : List ℕ) → numbers ≡ numbers_by 16320 (digits_number items) → read ≡ items → Shows 16320 numbers (digits_number read)
 shown_dense numbers items read is same = rw (is, same) (shows_by 16320 (digits_number items))
+
+pub shown_waiting : (numbers : List ℕ) (waiting read : WaitingPlaces) → numbers ≡ numbers_by 16320 (waiting_number waiting) → read ≡ waiting
+    → Shows 16320 numbers (waiting_number read)
+shown_waiting numbers waiting read is same = rw (is, same) (shows_by 16320 (waiting_number waiting))
 
 -- the numbers of all places are told by each of them
 same_numbers : (n : ℕ) (f : ℕ → ℕ) (xs : List ℕ) → length xs ≡ n → ((k : ℕ) → k < n → get_or xs k 0 ≡ f k) → xs ≡ numbers_by n f
@@ -123,6 +129,31 @@ pub raised_shown : (at : ℕ) (old new : List ℕ) (f g : ℕ → ℕ) → at < 
     → PutsAt at (get_or old at 0 + 1) old new
 raised_shown at old new f g below before after puts =
     subst (λ (n : ℕ). PutsAt at (n + 1) old new) (sym (before.within at below)) (puts_shown at (f at + 1) 16320 old new f g refl below before after puts)
+
+-- the numbers of all places, one by one
+pub numbers_same : (n : ℕ) (f g : ℕ → ℕ) → ((k : ℕ) → k < n → g k ≡ f k) → numbers_by n g ≡ numbers_by n f
+numbers_same n f g each = spread_same n f g (numbers_by n f) (size_by n f) (shows_by n f) each
+
+-- places that wait have the same numbers after a call
+pub waiting_kept : (xs : List ℕ) (waiting read new : WaitingPlaces) → xs ≡ numbers_by 16320 (waiting_number waiting) → read ≡ waiting → HaveSameNumbers new read
+    → numbers_by 16320 (waiting_number new) ≡ xs
+waiting_kept xs waiting read new is same counts =
+    numbers_same 16320 (waiting_number read) (waiting_number new) counts ∙ (ap (λ (w : WaitingPlaces). numbers_by 16320 (waiting_number w)) same ∙ sym is)
+
+pub kept_on_err : {T E : Type 0} (r : Result T E) (xs : List ℕ) (waiting read new : WaitingPlaces) → xs ≡ numbers_by 16320 (waiting_number waiting) → read ≡ waiting
+    → OnErr r (HaveSameNumbers new read) → OnErr r (numbers_by 16320 (waiting_number new) ≡ xs)
+kept_on_err (Ok t) xs waiting read new is same counts = tt
+kept_on_err (Err e) xs waiting read new is same counts = waiting_kept xs waiting read new is same counts
+
+-- one more at a place, unless there is no greater number
+pub noted_others : {T E : Type 0} (r : Result T E) (at n : ℕ) (old new : List ℕ) → OnOk r (PutsAt at n old new) → OnOk r (PutsAt at (get_or new at 0) old new)
+noted_others (Ok t) at n old new puts = record { put = refl; others = puts.others }
+noted_others (Err e) at n old new puts = tt
+
+pub noted_more : {T E : Type 0} (r : Result T E) (at n : ℕ) (old new : List ℕ) → OnOk r (PutsAt at n old new)
+    → (get_or old at 0 < 4294967295 → n ≡ get_or old at 0 + 1) → OnOk r (get_or old at 0 < 4294967295 → get_or new at 0 ≡ get_or old at 0 + 1)
+noted_more (Ok t) at n old new puts more = λ few. puts.put ∙ more few
+noted_more (Err e) at n old new puts more = tt
 
 -- Numbers by their digits.
 

@@ -3,3 +3,4 @@ pub mod FormLemmas
 pub mod EntryLemmas
 pub mod PlaceLemmas
 pub mod CountLemmas
+mod WaitingLemmas

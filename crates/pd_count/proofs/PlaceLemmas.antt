@@ -1,9 +1,8 @@
 -- Where the chunks of a group stand, and what a number that is put in one of them comes to for the group.
-use Rattle.std.proofs.Common.{◌≡◌, ◌≢◌, ◌⊎◌, ℕ, zero, suc, ◌+◌, ◌-◌, ◌*◌, ◌%◌, ◌^◌, ◌<◌, ◌≤◌, min, Bool, true, cond, eqb, List, [], length, get_or, set, inl, inr, refl, sym, ◌∙◌, ap, subst, arith, bit_and, bit_or, count_ones, get_or-set_same, get_or-set_other}
+use Rattle.std.proofs.Common.{◌≡◌, ◌≢◌, ◌⊎◌, ℕ, zero, suc, ◌+◌, ◌-◌, ◌*◌, ◌%◌, ◌^◌, ◌<◌, ◌≤◌, min, Bool, cond, List, [], length, get_or, set, inl, inr, refl, sym, ◌∙◌, ap, subst, arith, bit_and, bit_or, count_ones, get_or-set_same, get_or-set_other}
 use Rattle.std.specs.Int.{bit_at, w64}
 use Rattle.std.specs.List.{insert}
 use Rattle.std.proofs.lemmas.Bool.{cases_eq, cases_lt, eq-eqb, ne_eqb}
-use Rattle.std.proofs.lemmas.Bool.Decides.{nat_tests}
 use Rattle.std.proofs.lemmas.List.{get_or_default}
 use Rattle.std.proofs.lemmas.List.Edits.{length-insert, get_or-insert_below, get_or-insert_at, get_or-insert_above}
 use Rattle.std.proofs.lemmas.Nat.{and_mask, mod-pow-add, ones_cat, pow_pos}

@@ -1,12 +1,13 @@
 -- What a table of counts tells of each block.
 -- The chunks of a table, which stand in groups of 64.
 -- The numbers of a chunk, by the form in which they are kept.
-use Rattle.std.specs.Prelude.{◌≡◌, ◌≢◌, ℕ, ◌+◌, ◌*◌, ◌/◌, ◌%◌, ◌<◌, ◌==◌, List, [], length, slice_index, slice_index_or, count_by, ◌^◌, if◌then◌else◌, map, count_ones, ◌≤◌, ◌∷◌}
+use Rattle.std.specs.Prelude.{◌≡◌, ◌≢◌, ℕ, ◌+◌, ◌*◌, ◌/◌, ◌%◌, ◌<◌, ◌==◌, List, [], length, slice_index, slice_index_or, count_by, ◌^◌, if◌then◌else◌, map, count_ones, ◌≤◌, ◌∷◌, take}
 use Rattle.std.specs.Int.{bit_at}
 use Rattle.std.specs.List.{range_with_len}
 use Rattle.pd_count.specs.declared.few.Entry.{Entry}
 use Rattle.pd_count.specs.declared.chunk.Form.{Form}
-use Rattle.pd_count.specs.declared.chunk.Form.TheVariants.{Few, Dense}
+use Rattle.pd_count.specs.declared.chunk.Form.TheVariants.{Few, Dense, Waiting}
+use Rattle.pd_count.specs.declared.waiting.WaitingPlaces.{WaitingPlaces}
 
 -- the counts of so many blocks, in chunks of 16320; a chunk without numbers wasn't made
 pub record Counted : Type 0 where
@@ -128,6 +129,24 @@ pub record HasRoom (number digits : ℕ) : Type 0 where
   pub third : 65536 ≤ number → 48960 ≤ digits
   pub fourth : 16777216 ≤ number → 65280 ≤ digits
 
+-- the number of a place with its digits and the first of the places that wait: one more for each time that it is among them
+unfoldable pub number_with : WaitingPlaces → ℕ → ℕ → ℕ
+number_with w counted at = digits_number w.digits.items at + count_by (λ p. p == at) (take counted w.places.items)
+
+-- the number of a place, with all that wait
+abbrev pub waiting_number : WaitingPlaces → ℕ → ℕ
+waiting_number w = number_with w (length w.places.items)
+
+-- the numbers of all places are the same
+abbrev pub HaveSameNumbers : WaitingPlaces → WaitingPlaces → Type 0
+HaveSameNumbers v w = (k : ℕ) → k < 16320 → waiting_number v k ≡ waiting_number w k
+
+-- each place has one digit, and few places of the chunk wait
+pub record AreWaiting (w : WaitingPlaces) : Type 0 where
+  pub digits : length w.digits.items ≡ 16320
+  pub few : length w.places.items ≤ 254
+  pub places : (i : ℕ) → i < length w.places.items → slice_index w.places.items i < 16320
+
 -- a number was put at a place, and every other place has what it had
 pub record Puts (at number : ℕ) (old new : ℕ → ℕ) : Type 0 where
   pub put : new at ≡ number
@@ -141,8 +160,10 @@ few_numbers (e ∷ es) = numbers_by 16320 (entered (e ∷ es))
 abbrev pub form_numbers : Form → List ℕ
 form_numbers (Few entries) = few_numbers entries.items
 form_numbers (Dense digits) = numbers_by 16320 (digits_number digits.items)
+form_numbers (Waiting waiting) = numbers_by 16320 (waiting_number waiting.value)
 
 -- the form is as it is to be
 abbrev pub IsForm : Form → Type 0
 IsForm (Few entries) = AreEntries entries.items
 IsForm (Dense digits) = AreDigits digits.items
+IsForm (Waiting waiting) = AreWaiting waiting.value

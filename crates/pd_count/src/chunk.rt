@@ -3,8 +3,10 @@
 ghost use Rattle.std.specs.Prelude.{◌≡◌, ℕ, ◌+◌, ◌-◌, ◌^◌, ◌<◌, ◌≤◌, ◌==◌, [], true, false, take, length};
 ghost use Rattle.std.specs.Prelude.{slice_index, IfOk, OnOk, OnErr, MatchOption, min};
 ghost use Rattle.std.specs.List.{count_by};
+ghost use Rattle.pd_count.specs.Counted.{AreDigits, IsForm, digits_number, form_numbers, numbers_by};
 
 use crate::few::{self, Entry};
+use crate::waiting::WaitingPlaces;
 use crate::{CHUNK_COUNTS, dense};
 use std::alloc::{AllocError, Global};
 use std::marker::Model;
@@ -24,6 +26,23 @@ enum Form {
     Few(Vec<Entry>),
     /// The digits of all places.
     Dense(Vec<u8>),
+    /// A digit of each place, and places that wait to be counted.
+    Waiting(Box<WaitingPlaces>),
+}
+
+/// The form of these digits, where places may wait if that is asked for and each place has one digit.
+///
+/// Fails with `AllocError` where memory for the places wasn't found.
+fn form_of(alloc: Global, digits: Vec<u8>, may_wait: bool) -> Result<Form, AllocError>
+    requires { AreDigits digits.items }
+    ensures form { IfOk result IsForm }
+    ensures same { IfOk result (λ form. form_numbers form ≡ numbers_by 16320 (digits_number digits.items)) }
+{
+    if may_wait && digits.len() == CHUNK_COUNTS {
+        let places = WaitingPlaces::begin(alloc, digits)?;
+        return Ok(Form::Waiting(Box::new(alloc, places)?));
+    }
+    Ok(Form::Dense(digits))
 }
 
 /// 16320 numbers, or nothing where each of them is 0.
@@ -69,6 +88,7 @@ impl Chunk {
         match &self.form {
             Form::Few(entries) => !entries.is_empty(),
             Form::Dense(_) => true,
+            Form::Waiting(_) => true,
         }
     }
 
@@ -83,6 +103,7 @@ impl Chunk {
         match form {
             Form::Few(entries) => few::entered_number(entries, at as u16),
             Form::Dense(digits) => dense::number(digits, at),
+            Form::Waiting(waiting) => waiting.number(at),
         }
     }
 
@@ -95,7 +116,7 @@ impl Chunk {
         ensures err { OnErr result (self.new ≡ self.old) }
     {
         if self.is_full() {
-            self.spread()?;
+            self.spread(false)?;
         }
         self.put(at, number)
     }
@@ -107,19 +128,22 @@ impl Chunk {
         match &self.form {
             Form::Few(entries) => entries.len() >= FEW_PLACES,
             Form::Dense(_) => false,
+            Form::Waiting(_) => false,
         }
     }
 
-    /// Gives digits to all places. Want of memory leaves all as before, as each number is in any case.
-    fn spread(&mut self) -> Result<(), AllocError>
+    /// Gives digits to all places, which may wait from then on if that is asked for. Want of memory leaves all as before, as
+    /// each number is in any case.
+    fn spread(&mut self, may_wait: bool) -> Result<(), AllocError>
         requires { length self.old ≡ 16320 }
         ensures { self.new ≡ self.old }
     {
         let Form::Few(entries) = &self.form else {
             return Ok(());
         };
-        let digits = dense::spread(*entries.allocator(), entries)?;
-        self.form = Form::Dense(digits);
+        let alloc = *entries.allocator();
+        let digits = dense::spread(alloc, entries)?;
+        self.form = form_of(alloc, digits, may_wait)?;
         Ok(())
     }
 
@@ -129,10 +153,13 @@ impl Chunk {
         ensures put { OnOk result (PutsAt at number self.old self.new) }
         ensures err { OnErr result (self.new ≡ self.old) }
     {
-        match &mut self.form {
-            Form::Few(entries) => few::enter(entries, at as u16, number),
-            Form::Dense(digits) => dense::put(digits, at, number),
-        }
+        let digits = match &mut self.form {
+            Form::Few(entries) => return few::enter(entries, at as u16, number),
+            Form::Dense(digits) => return dense::put(digits, at, number),
+            Form::Waiting(waiting) => waiting.counted_with(at, number)?,
+        };
+        self.form = Form::Dense(digits);
+        Ok(())
     }
 
     /// Raises the number at a place by one, unless it is as great as it can be, makes the chunk where it isn't there, and
@@ -159,6 +186,70 @@ impl Chunk {
         match &mut self.form {
             Form::Few(_) => false,
             Form::Dense(digits) => dense::raise(digits, at),
+            Form::Waiting(_) => false,
+        }
+    }
+
+    /// Raises the number at a place by one, unless it is as great as it can be, now or with others that wait; and makes the
+    /// chunk where it isn't there. Places begin to wait where `is_far` says that the place noted before lies in another chunk.
+    ///
+    /// Fails with `AllocError` where memory wasn't found; then all is as before.
+    pub(crate) fn note(&mut self, at: usize, is_far: bool) -> Result<(), AllocError>
+        requires { at < 16320 }
+        ensures others { OnOk result (PutsAt at (slice_index self.new at) self.old self.new) }
+        ensures added { OnOk result (slice_index self.old at < 2 ^ 32 - 1 → slice_index self.new at ≡ slice_index self.old at + 1) }
+        ensures err { OnErr result (self.new ≡ self.old) }
+    {
+        self.make_room(is_far)?;
+        self.wait_or_add(at)
+    }
+
+    /// Makes room for places to wait: counts those that wait where there are no more, and begins to let them wait where the
+    /// list of places is as long as it may be. Want of memory leaves all as before, as each number is in any case.
+    fn make_room(&mut self, is_far: bool) -> Result<(), AllocError>
+        ensures { self.new ≡ self.old }
+    {
+        if let Form::Waiting(waiting) = &mut self.form {
+            if waiting.is_full() {
+                waiting.count_where_room();
+            }
+            return Ok(());
+        }
+        if is_far && self.is_full() {
+            self.spread(true)?;
+        }
+        Ok(())
+    }
+
+    /// Lets the place wait where it can; else raises its number by one, unless it is as great as it can be. Want of memory
+    /// leaves all as before.
+    fn wait_or_add(&mut self, at: usize) -> Result<(), AllocError>
+        requires { at < 16320 }
+        ensures others { OnOk result (PutsAt at (slice_index self.new at) self.old self.new) }
+        ensures added { OnOk result (slice_index self.old at < 2 ^ 32 - 1 → slice_index self.new at ≡ slice_index self.old at + 1) }
+        ensures err { OnErr result (self.new ≡ self.old) }
+    {
+        if let Form::Waiting(waiting) = &mut self.form {
+            if !waiting.is_full() {
+                return waiting.wait(at);
+            }
+        }
+        self.saturating_add(at)?;
+        Ok(())
+    }
+
+    /// Counts the places that wait. Where memory for their numbers isn't found, some of them go on waiting. All numbers are as
+    /// before.
+    pub(crate) fn settle(&mut self)
+        ensures { self.new ≡ self.old }
+    {
+        let Form::Waiting(waiting) = &mut self.form else {
+            return;
+        };
+        waiting.count_where_room();
+        match waiting.counted() {
+            Ok(digits) => self.form = Form::Dense(digits),
+            Err(_) => {}
         }
     }
 
@@ -172,6 +263,7 @@ impl Chunk {
         match &self.form {
             Form::Few(entries) => number == 0 && few::are_none(entries, at, len),
             Form::Dense(digits) => dense::are_all(digits, at, len, number),
+            Form::Waiting(waiting) => waiting.are_all(at, len, number),
         }
     }
 
@@ -185,6 +277,7 @@ impl Chunk {
         match &self.form {
             Form::Few(entries) => covered - few::counted_below(entries, covered),
             Form::Dense(digits) => dense::zeros(digits, covered),
+            Form::Waiting(waiting) => waiting.zeros(covered),
         }
     }
 
@@ -199,6 +292,7 @@ impl Chunk {
         match &self.form {
             Form::Few(entries) => few::first_entered(entries, from, least),
             Form::Dense(digits) => dense::first(digits, from, least),
+            Form::Waiting(waiting) => waiting.first(from, least),
         }
     }
 
@@ -211,6 +305,7 @@ impl Chunk {
         match &self.form {
             Form::Few(entries) => few::copy(entries, numbers),
             Form::Dense(digits) => dense::copy(digits, numbers),
+            Form::Waiting(waiting) => waiting.copy(numbers),
         }
     }
 }

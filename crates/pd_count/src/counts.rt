@@ -18,6 +18,8 @@ use std::marker::Model;
 pub struct Counts {
     size: u64,
     groups: Vec<Group>,
+    /// The chunk of the block that was noted last.
+    noted: usize,
 }
 
 impl Model for Counts {
@@ -47,6 +49,7 @@ impl Counts {
         Ok(Counts {
             size,
             groups: absent_groups(alloc, places)?,
+            noted: 0,
         })
     }
 
@@ -84,6 +87,39 @@ impl Counts {
         let at = (b % CHUNK_COUNTS as u64) as usize;
         let before = self.groups[i / GROUP_CHUNKS].saturating_add(i % GROUP_CHUNKS, at)?;
         Ok(before)
+    }
+
+    /// Notes the block: counts it once more, unless its count is as great as it can be, now or once many blocks of its chunk
+    /// wait. Where blocks come in no order that is faster than `saturating_add`. It takes memory as `add` does, and 540 bytes
+    /// for a chunk whose blocks wait.
+    ///
+    /// Every call here counts what waits; those that read are slow while blocks wait, until `settle`.
+    ///
+    /// Fails with `AllocError` where that memory wasn't found; then all is as before.
+    pub fn note(&mut self, b: u64) -> Result<(), AllocError>
+        requires { b < self.old.size }
+        ensures others { OnOk result (PutsNumber b (count_of self.new b) self.old self.new) }
+        ensures added { OnOk result (count_of self.old b < 2 ^ 32 - 1 → CountsOneMore b self.old self.new) }
+        ensures listed { OnOk result (count_of self.old b < 2 ^ 32 - 1
+            → (before : List ℕ) → HasCounted self.old before → HasCounted self.new (before ++ b ∷ [])) }
+        ensures err { OnErr result (self.new ≡ self.old) }
+    {
+        let i = (b / CHUNK_COUNTS as u64) as usize;
+        let at = (b % CHUNK_COUNTS as u64) as usize;
+        let is_far = i != self.noted;
+        self.noted = i;
+        self.groups[i / GROUP_CHUNKS].note(i % GROUP_CHUNKS, at, is_far)?;
+        Ok(())
+    }
+
+    /// Counts the blocks that wait after `note`, so that what reads the counts is fast. All counts are as before. It takes the
+    /// memory of one chunk for a while; where that isn't found, some blocks go on waiting.
+    pub fn settle(&mut self)
+        ensures { self.new ≡ self.old }
+    {
+        for place in 0..self.groups.len() {
+            self.groups[place].settle();
+        }
     }
 
     /// Puts the number of the block, in a table of other numbers than counts. It takes memory as `add` does.

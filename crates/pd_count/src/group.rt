@@ -98,6 +98,33 @@ impl Group {
         Ok(before)
     }
 
+    /// Notes a place of chunk `i`: raises its number by one, unless it is as great as it can be, now or with others that wait;
+    /// and makes the chunk where it isn't made. Want of memory leaves all as before.
+    pub(crate) fn note(&mut self, i: usize, at: usize, is_far: bool) -> Result<(), AllocError>
+        requires chunk { i < 64 }
+        requires place { at < 16320 }
+        ensures others { OnOk result (PutsInGroup i at (slice_index (chunk_of self.new i) at) self.old self.new) }
+        ensures added { OnOk result (slice_index (chunk_of self.old i) at < 2 ^ 32 - 1
+            → slice_index (chunk_of self.new i) at ≡ slice_index (chunk_of self.old i) at + 1) }
+        ensures err { OnErr result (self.new ≡ self.old) }
+    {
+        let Some(place) = self.place(i) else {
+            self.begin(i, at, 1)?;
+            return Ok(());
+        };
+        self.chunks[place].note(at, is_far)?;
+        Ok(())
+    }
+
+    /// Counts the places that wait. All numbers are as before.
+    pub(crate) fn settle(&mut self)
+        ensures { self.new ≡ self.old }
+    {
+        for place in 0..self.chunks.len() {
+            self.chunks[place].settle();
+        }
+    }
+
     /// Puts the number at a place of chunk `i`, and makes the chunk where it isn't made. Want of memory leaves all as
     /// before.
     pub(crate) fn set(&mut self, i: usize, at: usize, number: u32) -> Result<(), AllocError>

@@ -7,6 +7,7 @@ mod counts;
 mod dense;
 mod few;
 mod group;
+mod waiting;
 
 pub use chunk::Chunk;
 pub use counts::Counts;

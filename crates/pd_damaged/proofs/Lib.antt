@@ -3,3 +3,9 @@ pub mod BelowLemmas
 pub mod KnownLemmas
 pub mod RoundLemmas
 pub mod TopLemmas
+pub mod PushLemmas
+pub mod GivenLemmas
+pub mod MarkLemmas
+pub mod FewLemmas
+pub mod ListedLemmas
+pub mod StateLemmas

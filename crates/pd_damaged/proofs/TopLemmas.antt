@@ -14,7 +14,7 @@ use Rattle.pd_value.specs.declared.thin.Root.{Root}
 use Rattle.pd_tree.specs.Cursor.{item_of, root_of}
 use Rattle.pd_measures.specs.Counts.{latest}
 use Rattle.pd_measures.specs.Measured.{capped, capped_sum}
-use Rattle.pd_damaged.specs.DamagedStates.{bare_fields, kept_devices, kept_number, kept_roots}
+use Rattle.pd_answers.specs.DamagedStates.{bare_fields, kept_devices, kept_number, kept_roots}
 use Rattle.pd_damaged.specs.declared.remains.Remains.{Remains}
 use Rattle.pd_damaged.specs.declared.table.KnownTable.{KnownTable}
 use Rattle.pd_damaged.specs.declared.top.KeptTop.{KeptTop}
@@ -94,7 +94,7 @@ module _ (graph : Graph) (image : List (List ℕ)) (top details : ℕ) where
   unfolding salvaged_device salvaged_mappings kept_below
   number_is e = length-map (below e) mapping
 
-  devices_number : (es : List Entry) → kept_number (map device es) ≡ length (flat_map below es)
+  pub devices_number : (es : List Entry) → kept_number (map device es) ≡ length (flat_map below es)
   devices_number [] = refl
   devices_number (e ∷ es) =
       sum_by-cons (λ (d : ThinDevice). d.mapped) (device e) (map device es)
@@ -106,7 +106,7 @@ module _ (graph : Graph) (image : List (List ℕ)) (top details : ℕ) where
       sum_by-cons (λ (m : Mapping). m.time) (mapping e) (map mapping es)
       ∙ (ap (λ (n : ℕ). mapped_time e.value + n) (times_made es) ∙ sym (sum_by-cons (λ (e : Entry). mapped_time e.value) e es))
 
-  devices_times : (es : List Entry) → sum_by (λ (d : ThinDevice). sum_by (λ (m : Mapping). m.time) d.mappings) (map device es)
+  pub devices_times : (es : List Entry) → sum_by (λ (d : ThinDevice). sum_by (λ (m : Mapping). m.time) d.mappings) (map device es)
       ≡ sum_by (λ (e : Entry). mapped_time e.value) (flat_map below es)
   devices_times [] = refl
   devices_times (e ∷ es) =
@@ -131,7 +131,7 @@ module _ (graph : Graph) (image : List (List ℕ)) (top details : ℕ) where
 
   -- what was counted of the entries is what is kept
   module _ (es : List Entry) (is : saved_tops fields image ≡ es) where
-    devices_of : kept_devices graph image top details ≡ map device es
+    pub devices_of : kept_devices graph image top details ≡ map device es
     devices_of = devices_are ∙ ap (map device) is
 
     pub devices_is : (top_of graph.nr graph.data_blocks image es).devices ≡ capped (length (kept_devices graph image top details))

@@ -1,4 +1,6 @@
-pub mod DamagedStates
+pub mod Given
 pub mod Kept
 pub mod Known
+pub mod Listed
+pub mod Loose
 pub mod Top

@@ -6,7 +6,7 @@ use Rattle.pd_kinds.specs.Meaning.{Mapping, ThinDevice}
 use Rattle.pd_value.specs.declared.thin.Root.{Root}
 use Rattle.pd_measures.specs.Counts.{latest}
 use Rattle.pd_measures.specs.Measured.{capped, capped_sum}
-use Rattle.pd_damaged.specs.DamagedStates.{kept_devices, kept_number, kept_roots}
+use Rattle.pd_answers.specs.DamagedStates.{kept_devices, kept_number, kept_roots}
 use Rattle.pd_damaged.specs.Kept.{join, kept_below, measure_of, no_kept}
 use Rattle.pd_damaged.specs.declared.kept.Kept.{Kept}
 use Rattle.pd_damaged.specs.declared.top.KeptTop.{KeptTop}

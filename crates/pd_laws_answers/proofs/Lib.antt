@@ -17,6 +17,7 @@ pub mod CacheRepaired
 pub mod EraLawful
 pub mod MoreBlocks
 pub mod NamedTold
+pub mod Listed
 pub mod OrderLemmas
 pub mod CacheWords
 pub mod Searched

@@ -24,7 +24,8 @@ use Rattle.pd_answers.specs.NamedRepairs.{named_pool, named_shape, saved_from_na
 use Rattle.pd_answers.specs.declared.request.GivenSuper.{GivenSuper}
 use Rattle.pd_answers.specs.declared.request.NamedRoots.{NamedRoots}
 use Rattle.pd_answers.specs.Repairs.{saved_making}
-use Rattle.pd_answers.specs.Searches.{found_fields, found_shape, seen_pool, seen_shape, timed_pool, timed_shape, greatest_time}
+use Rattle.pd_answers.specs.FoundStates.{found_fields}
+use Rattle.pd_answers.specs.Searches.{found_shape, seen_pool, seen_shape, timed_pool, timed_shape, greatest_time}
 use Rattle.pd_kept.proofs.BoundLemmas.{Below, below_greatest, first_of_all, rest_of_all}
 use Rattle.pd_scan.specs.Pairs.{lost_fields}
 use Rattle.pd_laws_laid.specs.Clean.{IsCleanPool}

@@ -5,7 +5,9 @@ use Rattle.pd_kinds.specs.Objects.{Appends}
 use Rattle.pd_laid.specs.FoundRoots.{FoundRoots, IsFound, lost_graph}
 use Rattle.pd_answers.specs.Terms.{IsGiven, Objects, IsAnswered}
 use Rattle.pd_answers.specs.KeptLines.{told_from, told_text}
-use Rattle.pd_answers.specs.NamedRepairs.{dry_search, dry_search_answer, text_of_states, named_fields, states}
+use Rattle.pd_answers.specs.DamagedStates.{damaged_states}
+use Rattle.pd_answers.specs.FoundStates.{states}
+use Rattle.pd_answers.specs.NamedRepairs.{dry_search, dry_search_answer, text_of_states, named_fields}
 use Rattle.pd_answers.specs.declared.request.GivenSuper.{GivenSuper}
 use Rattle.pd_answers.specs.declared.request.NamedRoots.{NamedRoots}
 use Rattle.pd_scan.specs.Pairs.{first_of}
@@ -40,14 +42,16 @@ none_found : (found : Option (List ℕ)) (before after : Objects) → IsGiven be
 none_found None before after given = refl
 none_found (Some text) before after given = let one = given.status in absurd (omega arith)
 
-without_text : (image : Image) (given : GivenSuper) (found : List FoundRoots) → text_of_states image given found ≡ None → found ≡ []
-without_text image given [] none = refl
-without_text image given (best ∷ others) none = absurd cc
+without_text : (image : Image) (given : GivenSuper) (sound damaged : List FoundRoots) → text_of_states image given sound damaged ≡ None → (sound ≡ []) × (damaged ≡ [])
+without_text image given [] [] none = (refl, refl)
+without_text image given [] (best ∷ others) none = absurd cc
+without_text image given (best ∷ others) damaged none = absurd cc
 
 pub no_states : ((image : Image) (data_blocks : ℕ) → IsFound (lost_graph image data_blocks) image (first_of (states (lost_graph image data_blocks) image)))
     → (path : List ℕ) (given : GivenSuper) (before after : Objects) → IsAnswered (dry_search path given None) before after 1 → HasNoStates given before
 no_states best path given before after answered =
     let none = none_found answered.finding before after (answered.sound (omega arith)) in
     IfSome_then before.input.held answered.found (λ image found.
-    subst (λ (some : List FoundRoots). IsFound (lost_graph image given.blocks) image (first_of some))
-    (without_text image given (states (lost_graph image given.blocks) image) (sym found ∙ none)) (best image given.blocks))
+    let graph = lost_graph image given.blocks in
+    let without = without_text image given (states graph image) (damaged_states graph image) (sym found ∙ none) in
+    (subst (λ (some : List FoundRoots). IsFound graph image (first_of some)) without.0 (best image given.blocks), without.1))

@@ -27,7 +27,8 @@ use Rattle.pd_answers.specs.Outputs.{Lays, Making, is_too_small, HoldsMade}
 use Rattle.pd_answers.specs.Promises.{terms_of}
 use Rattle.pd_answers.specs.Repairs.{FindsSaved, Salvaged, Saved, repair_by, saved_answer, saved_making, saved_of}
 use Rattle.pd_answers.specs.declared.request.Request.TheVariants.{Repair}
-use Rattle.pd_answers.specs.Searches.{found_fields, found_shape, seen_pool, seen_shape}
+use Rattle.pd_answers.specs.FoundStates.{found_fields}
+use Rattle.pd_answers.specs.Searches.{found_shape, seen_pool, seen_shape}
 use Rattle.pd_scan.specs.Pairs.{lost_fields}
 use Rattle.pd_laws_laid.specs.Clean.{IsCleanPool}
 use Rattle.pd_laws_shapes.specs.Counts.{IsSharedTwice}

@@ -17,22 +17,24 @@ use Rattle.pd_answers.specs.Outputs.{Lays, Making, is_too_small, IsWorkDone}
 use Rattle.pd_answers.specs.Promises.{terms_of}
 use Rattle.pd_answers.specs.Repairs.{Saved, saved_making}
 use Rattle.pd_answers.specs.declared.request.Request.TheVariants.{Search}
-use Rattle.pd_answers.specs.Searches.{Searched, saved_from, search_answer, searched_answer, roots_line, seen_pool}
+use Rattle.pd_answers.specs.DamagedStates.{damaged_states}
+use Rattle.pd_answers.specs.Searches.{Searched, are_some, saved_from, search_answer, searched_answer, roots_line, seen_pool}
 use Rattle.pd_laws_laid.specs.Clean.{IsCleanPool}
 use Rattle.pd_laws_answers.specs.Search.{HasNoRoots, HoldsBest, HoldsFound, IsOfBest, IsPoolOf, LeavesFound, OfRoots}
 use Rattle.pd_laws_answers.proofs.Restored.{Image, both_told, given_once_done}
 use Rattle.pd_laws_answers.proofs.SeenLemmas.{seen_pool_lawful}
 
 -- at the answer's status 0 there are roots, whose line it has, and there is room
-record AreAnswered (making : Making) (found : Option FoundRoots) (room : ℕ) : Type 0 where
+record AreAnswered (making : Making) (found : Option FoundRoots) (are_damaged : Bool) (room : ℕ) : Type 0 where
   roots : FoundRoots
   same : found ≡ Some roots
-  line : (search_answer making found room).out ≡ roots_line roots
+  line : (search_answer making found are_damaged room).out ≡ roots_line roots
   enough : making.need room ≤ room
 
-answered_at_zero : (making : Making) (found : Option FoundRoots) (room : ℕ) → (search_answer making found room).status ≡ 0 → AreAnswered making found room
-answered_at_zero making None room given = absurd (omega (arith, given))
-answered_at_zero making (Some roots) room given = elim (cases_Bool (is_too_small making room)) [
+answered_at_zero : (making : Making) (found : Option FoundRoots) (are_damaged : Bool) (room : ℕ) → (search_answer making found are_damaged room).status ≡ 0
+    → AreAnswered making found are_damaged room
+answered_at_zero making None are_damaged room given = absurd (omega (arith, given))
+answered_at_zero making (Some roots) are_damaged room given = elim (cases_Bool (is_too_small making room)) [
   | inl small ↦ absurd (four_zero (rw small at given))
   | inr enough ↦ record { roots = roots; same = refl; line = rw enough refl; enough = ltb-false room (making.need room) enough }
 ]
@@ -41,9 +43,9 @@ answered_at_zero making (Some roots) room given = elim (cases_Bool (is_too_small
     four_zero e = omega arith
 
 -- at its status 1 there are none
-none_at_one : (making : Making) (found : Option FoundRoots) (room : ℕ) → (search_answer making found room).status ≡ 1 → found ≡ None
-none_at_one making None room given = refl
-none_at_one making (Some roots) room given = elim (cases_Bool (is_too_small making room)) [
+none_at_one : (making : Making) (found : Option FoundRoots) (are_damaged : Bool) (room : ℕ) → (search_answer making found are_damaged room).status ≡ 1 → found ≡ None
+none_at_one making None are_damaged room given = refl
+none_at_one making (Some roots) are_damaged room given = elim (cases_Bool (is_too_small making room)) [
   | inl small ↦ absurd (four_one (rw small at given))
   | inr enough ↦ absurd (zero_one (rw enough at given))
 ]
@@ -55,9 +57,10 @@ none_at_one making (Some roots) room given = elim (cases_Bool (is_too_small maki
     zero_one e = omega arith
 
 -- what was found in an image
-abbrev IsRight : (shared : Bool) → ℕ → ℕ → ℕ → Option FoundRoots → Saved shared → Image → Type 0
-IsRight shared transaction block_size blocks found saved image = IsFound (lost_graph image blocks) image found
-    × IfSome found (λ roots. saved ≡ saved_from shared (lost_graph image blocks) image transaction block_size roots)
+abbrev IsRight : (shared : Bool) → ℕ → ℕ → ℕ → Option FoundRoots → Bool → Saved shared → Image → Type 0
+IsRight shared transaction block_size blocks found are_damaged saved image = IsFound (lost_graph image blocks) image found
+    × (IfSome found (λ roots. saved ≡ saved_from shared (lost_graph image blocks) image transaction block_size roots)
+    × (found ≡ None → are_damaged ≡ are_some (damaged_states (lost_graph image blocks) image)))
 
 -- what holds of an image that is laid of what is saved from the best roots of another one
 abbrev pub IsFoundSo : Bool → ℕ → ℕ → ℕ → OfRoots → Type 0
@@ -70,15 +73,15 @@ module _ (shared : Bool) (transaction block_size blocks : ℕ) (Made : OfRoots) 
   Laid searched = Lays (searched_answer (saved_making shared) searched) (saved_making shared searched.saved) searched.room
 
   -- what is laid of what was found
-  of_roots : (image base made : Image) (searched : Searched (Saved shared)) (are : AreAnswered (saved_making shared searched.saved) searched.roots searched.room) → IsImage image
-      → IsRight shared transaction block_size blocks searched.roots searched.saved image → searched.room ≡ room_of (length base)
+  of_roots : (image base made : Image) (searched : Searched (Saved shared)) (are : AreAnswered (saved_making shared searched.saved) searched.roots searched.are_damaged searched.room) → IsImage image
+      → IsRight shared transaction block_size blocks searched.roots searched.are_damaged searched.saved image → searched.room ≡ room_of (length base)
       → Laid searched base made → IsOfBest blocks Made image made
   of_roots image base made searched are is right room laid =
       let told = rw are.same at right in
       record {
         roots = are.roots;
         best = told.0;
-        pool = so image base made are.roots is told.0 (rw (told.1, room) at are.enough) (rw (told.1, room) at laid.1);
+        pool = so image base made are.roots is told.0 (rw (told.1.0, room) at are.enough) (rw (told.1.0, room) at laid.1);
       }
 
   module _ (from to : List ℕ) (before after : Objects) where
@@ -90,7 +93,7 @@ module _ (shared : Bool) (transaction block_size blocks : ℕ) (Made : OfRoots) 
     holds_best status answered done =
         let searched = answered.finding in
         let given = given_once_done (searched_answer (saved_making shared) searched).status status before after (λ low. (answered.sound low).status) answered.spared done in
-        let are = answered_at_zero (saved_making shared searched.saved) searched.roots searched.room given in
+        let are = answered_at_zero (saved_making shared searched.saved) searched.roots searched.are_damaged searched.room given in
         IfSome_then before.input.held answered.found.1 (λ image right is.
         IfSome_then before.output.held (both_told before.output.held (λ (base : Image). searched.room ≡ room_of (length base))
         (λ (base : Image). IfSome after.output.held (λ (made : Image). Laid searched base made × HoldsSynced made after.output))
@@ -103,7 +106,7 @@ module _ (shared : Bool) (transaction block_size blocks : ℕ) (Made : OfRoots) 
     holds_found answered =
         let searched = answered.finding in
         let given = answered.sound (omega arith) in
-        let are = answered_at_zero (saved_making shared searched.saved) searched.roots searched.room (sym given.status) in
+        let are = answered_at_zero (saved_making shared searched.saved) searched.roots searched.are_damaged searched.room (sym given.status) in
         IfSome_then before.input.held answered.found.1 (λ image right is.
         IfSome_then before.output.held (both_told before.output.held (λ (base : Image). searched.room ≡ room_of (length base))
         (λ (base : Image). IfSome after.output.held (λ (made : Image). Laid searched base made × HoldsSynced made after.output))
@@ -125,14 +128,14 @@ module _ (shared : Bool) (transaction block_size blocks : ℕ) (Made : OfRoots) 
         weaken told.1 (λ left firsts outcome chance.
         ⊎_elim (λ old. inl old)
         (λ other. inr (⊎_elim (λ none. inl none)
-        (λ laid. inr (of_roots image base left searched (answered_at_zero (saved_making shared searched.saved) searched.roots searched.room laid.0) is right told.0 laid)) other)) (outcome chance))))
+        (λ laid. inr (of_roots image base left searched (answered_at_zero (saved_making shared searched.saved) searched.roots searched.are_damaged searched.room laid.0) is right told.0 laid)) other)) (outcome chance))))
 
 -- and what status 1 says
 pub says_none : (shared : Bool) (from to : List ℕ) (transaction block_size blocks : ℕ) (before after : Objects)
     → IsAnswered (terms_of (Some (Search shared from to (record { transaction = transaction; block_size = block_size; blocks = blocks })))) before after 1 → HasNoRoots blocks before after
 says_none shared from to transaction block_size blocks before after answered =
     let searched = answered.finding in
-    let none = none_at_one (saved_making shared searched.saved) searched.roots searched.room (sym (answered.sound (omega arith)).status) in (
+    let none = none_at_one (saved_making shared searched.saved) searched.roots searched.are_damaged searched.room (sym (answered.sound (omega arith)).status) in (
       IfSome_then before.input.held answered.found.1 (λ image right. (rw none at right).0),
       answered.leaves.output.untouched (rw none refl),
     )

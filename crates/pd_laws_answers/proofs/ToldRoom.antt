@@ -18,7 +18,8 @@ use Rattle.pd_answers.specs.NamedRepairs.{named_pool, named_shape, saved_from_na
 use Rattle.pd_answers.specs.declared.request.GivenSuper.{GivenSuper}
 use Rattle.pd_answers.specs.declared.request.NamedRoots.{NamedRoots}
 use Rattle.pd_answers.specs.Repairs.{saved_making, saved_of}
-use Rattle.pd_answers.specs.Searches.{found_fields, found_shape, saved_from, seen_pool, seen_shape, timed_pool, timed_shape}
+use Rattle.pd_answers.specs.FoundStates.{found_fields}
+use Rattle.pd_answers.specs.Searches.{found_shape, saved_from, seen_pool, seen_shape, timed_pool, timed_shape}
 use Rattle.pd_kept.proofs.WeighingLemmas.{pool_bitmaps, shape_bitmaps}
 use Rattle.pd_laws_answers.specs.Saved.{told_need}
 use Rattle.pd_laws_answers.proofs.SalvageLawful.{SavesFound}

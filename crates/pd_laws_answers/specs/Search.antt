@@ -19,7 +19,9 @@ use Rattle.pd_answers.specs.declared.request.Request.TheVariants.{Search, Repair
 use Rattle.pd_answers.specs.Searches.{found_shape, roots_line, seen_pool, seen_shape}
 use Rattle.pd_answers.specs.Words.{number_below}
 use Rattle.pd_answers.specs.KeptLines.{told_from, told_text}
-use Rattle.pd_answers.specs.NamedRepairs.{named_pool, named_shape, text_of_states, named_fields, states}
+use Rattle.pd_answers.specs.DamagedStates.{damaged_states, kept_devices}
+use Rattle.pd_answers.specs.FoundStates.{states}
+use Rattle.pd_answers.specs.NamedRepairs.{named_pool, named_shape, saved_from_named, text_of_states, named_fields}
 use Rattle.pd_answers.specs.declared.request.NamedRoots.{NamedRoots}
 use Rattle.pd_laws_laid.specs.Clean.{IsCleanPool}
 use Rattle.pd_laws_answers.specs.Saved.{KeepsShape}
@@ -212,16 +214,35 @@ abbrev pub TellsNamed : GivenSuper → NamedRoots → Objects → Objects → Ty
 TellsNamed given named before after =
     IfSome before.input.held (λ image. Appends (told_text (told_from (named_fields image given named) image)) before.out.written after.out.written)
 
--- the states of an image were told, and what is kept of the first one
+-- the states of an image were told, the sound ones and the damaged ones, and what is kept of the best one
 pub record TellsStatesOf (image : List (List ℕ)) (given : GivenSuper) (before after : Objects) : Type 0 where
   pub text : List ℕ
-  pub is : text_of_states image given (states (lost_graph image given.blocks) image) ≡ Some text
+  pub is : text_of_states image given (states (lost_graph image given.blocks) image) (damaged_states (lost_graph image given.blocks) image)
+      ≡ Some text
   pub put : Appends text before.out.written after.out.written
 
 abbrev pub TellsStates : GivenSuper → Objects → Objects → Type 0
 TellsStates given before after = IfSome before.input.held (λ image. TellsStatesOf image given before after)
 
--- no two trees fit each other
+-- no two trees fit each other, and there is no damaged state
 abbrev pub HasNoStates : GivenSuper → Objects → Type 0
 HasNoStates given before =
-    IfSome before.input.held (λ image. (top details : ℕ) → are_fitting (lost_graph image given.blocks) image top details ≡ false)
+    IfSome before.input.held (λ image. ((top details : ℕ) → are_fitting (lost_graph image given.blocks) image top details ≡ false)
+    × (damaged_states (lost_graph image given.blocks) image ≡ []))
+
+-- what is kept of a device: its number, and its mappings
+abbrev pub kept_of_device : ThinDevice → ℕ × (ℕ × List Mapping)
+kept_of_device d = (d.id, (d.mapped, d.mappings))
+
+-- the roots of a state, where they are named
+abbrev pub named_of : FoundRoots → NamedRoots
+named_of roots = record { top = roots.top; details = roots.details }
+
+-- a repair from the roots of a damaged state saves the devices and mappings that its line counts, and a dry run tells as many
+pub record KeepsListed (image : List (List ℕ)) (given : GivenSuper) (listed : FoundRoots) : Type 0 where
+  pub devices : map kept_of_device (saved_from_named false image given (named_of listed)).devices
+      ≡ map kept_of_device (kept_devices (lost_graph image given.blocks) image listed.top listed.details)
+  pub mappings : sum_by (λ (d : ThinDevice). d.mapped) (saved_from_named false image given (named_of listed)).devices ≡ listed.mappings
+  pub told_devices : (told_from (named_fields image given (named_of listed)) image).devices
+      ≡ length (kept_devices (lost_graph image given.blocks) image listed.top listed.details)
+  pub told_mappings : (told_from (named_fields image given (named_of listed)) image).mappings ≡ listed.mappings

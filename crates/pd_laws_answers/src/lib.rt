@@ -38,10 +38,11 @@ pub use repairs::{
 };
 pub use searches::{
     crashed_search_leaves_no_other_pool, fitting_roots_are_saved_whole, found_pools_are_lawful,
-    lost_pool_is_repaired, lost_pools_are_found, named_pool_sees_sharing, named_pools_are_lawful,
-    named_repair_is_clean, named_repairs_have_room_where_told, repairs_have_room_where_told,
-    searched_pool_is_clean, searched_pool_sees_sharing, searches_have_room_where_told,
-    seen_pools_see_sharing, seen_pools_stay, sound_pools_are_told_whole,
+    listed_states_are_kept, lost_pool_is_repaired, lost_pools_are_found, named_pool_sees_sharing,
+    named_pools_are_lawful, named_repair_is_clean, named_repairs_have_room_where_told,
+    repairs_have_room_where_told, searched_pool_is_clean, searched_pool_sees_sharing,
+    searches_have_room_where_told, seen_pools_see_sharing, seen_pools_stay,
+    sound_pools_are_told_whole,
 };
 pub use shrinks::{
     shrunk_pool_is_clean_and_reads_the_same, shrunk_pool_keeps_its_sharing,

@@ -1,7 +1,7 @@
 //! What a search for the roots of a pool finds and leaves: the laws of a repair without a superblock.
 
 ghost use Rattle.std.specs.Prelude.{◌≡◌, ℕ, List, [], Bool, true, nat_lt};
-ghost use Rattle.std.specs.List.{flat_map};
+ghost use Rattle.std.specs.List.{AllByRecursion, flat_map};
 ghost use Rattle.pd_kinds.specs.declared.kind.Kind.TheVariants.{Thin};
 ghost use Rattle.pd_kinds.specs.declared.kind.Stage.TheVariants.{Whole};
 ghost use Rattle.pd_kinds.specs.Graph.{block_at};
@@ -19,10 +19,12 @@ ghost use Rattle.pd_answers.specs.NamedRepairs.{named_pool, named_shape, saved_f
 ghost use Rattle.pd_answers.specs.declared.request.GivenSuper.{GivenSuper};
 ghost use Rattle.pd_answers.specs.declared.request.NamedRoots.{NamedRoots};
 ghost use Rattle.pd_answers.specs.Repairs.{saved_making, saved_of};
-ghost use Rattle.pd_answers.specs.Searches.{found_shape, seen_pool, found_fields, saved_from};
+ghost use Rattle.pd_answers.specs.DamagedStates.{damaged_states};
+ghost use Rattle.pd_answers.specs.FoundStates.{found_fields};
+ghost use Rattle.pd_answers.specs.Searches.{found_shape, seen_pool, saved_from};
 ghost use Rattle.pd_laws_answers.specs.Search.{DoNumbersFit, HasNoRoots, HoldsBestPool, HoldsFoundPool, HoldsNoEarlier, IsLostOf};
 ghost use Rattle.pd_laws_answers.specs.Search.{IsLostPool, IsSearchAnswered, KeepsRoots, LeavesFoundPool, HoldsNamed};
-ghost use Rattle.pd_laws_answers.specs.Search.{IsNamedRepairAnswered, LeavesNamed, IsSharedSearchAnswered};
+ghost use Rattle.pd_laws_answers.specs.Search.{IsNamedRepairAnswered, KeepsListed, LeavesNamed, IsSharedSearchAnswered};
 ghost use Rattle.pd_laws_answers.specs.Saved.{told_need, whole_line};
 ghost use Rattle.pd_laws_answers.specs.Sharing.{IsTimely, SeesSharing, SharingIsSeen};
 
@@ -147,6 +149,13 @@ pub fn fitting_roots_are_saved_whole()
 {
     found_pools_are_saved_whole();
 }
+
+/// The line of a damaged state says what a repair keeps from its roots, once they are named: it saves these devices with as many
+/// mappings, and a dry run from them tells the same numbers.
+pub fn listed_states_are_kept()
+    ensures { (image : List (List ℕ)) (given : GivenSuper)
+        → AllByRecursion (KeepsListed image given) (damaged_states (lost_graph image given.blocks) image) }
+{}
 
 /// A repair from named roots has room on as many blocks as a dry run with them tells, and on more, but on no fewer: without the leaves
 /// that devices share the first number is meant, and with them the second.

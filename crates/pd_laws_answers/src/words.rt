@@ -337,8 +337,9 @@ pub fn thin_repair_saves_from_named_roots()
 }
 
 /// `thin_repair --dry-run -i IMAGE --transaction-id TRANSACTION --data-block-size SIZE --nr-data-blocks BLOCKS`, with `--shared` before
-/// `-i` or not: status 0 says that the states of the input were put from which a repair can choose, the best first, and what it would keep
-/// of the first one; status 1 says that no two trees of the input fit each other. With `--mapping-root TOP --details-root DETAILS` before
+/// `-i` or not: status 0 says that the states of the input were put from which a repair can choose, the sound ones before the damaged
+/// ones, and what it would keep of the best one; status 1 says that no two trees of the input fit each other, and that there is no damaged
+/// state. With `--mapping-root TOP --details-root DETAILS` before
 /// the numbers status 0 says that it was put what a repair from these roots would keep, and status 1 never comes.
 pub fn thin_repair_tells_the_states()
     ensures told { (shared : Bool) (image : List ℕ) (words : NumberWords) (given : GivenSuper) (before after : Objects) → IsName image

@@ -3,7 +3,7 @@ use Rattle.std.proofs.Common.{◌≡◌, ◌⊎◌, inl, inr, ℕ, zero, suc, �
 use Rattle.std.specs.List.{AllByRecursion, cons_option, filter_map, range_with_len}
 use Rattle.std.proofs.lemmas.Bool.{both_ways, cases_eq, false_from_ne_true}
 use Rattle.pd_laid.specs.FoundRoots.{FoundRoots, is_better, is_greater, score_of}
-use Rattle.pd_answers.specs.NamedRepairs.{best_of, better_of_two, in_order, placed}
+use Rattle.pd_answers.specs.FoundStates.{best_of, better_of_two, in_order, placed}
 use Rattle.pd_scan.specs.Pairs.{IsBest, IsBestOf, better_of, best_among, first_of}
 use Rattle.pd_scan.proofs.PairLemmas.{first_parts, not_better_self, best_of_both}
 
@@ -101,10 +101,6 @@ first_placed roots (x ∷ xs) = chosen (is_better roots x)
 first_in_order : (o : Option FoundRoots) (xs : List FoundRoots) → first_of (in_order (cons_option o xs)) ≡ better_of (first_of (in_order xs)) o
 first_in_order None xs = refl
 first_in_order (Some roots) xs = first_placed roots (in_order xs)
-
-pub first_taken : (n : ℕ) (xs : List FoundRoots) → first_of (take (suc n) xs) ≡ first_of xs
-first_taken n [] = refl
-first_taken n (x ∷ xs) = refl
 
 -- the best of some pairs is so too of others, of which only those fit that are among the first
 pub best_of_same : (fits : ℕ → ℕ → Bool) (pair : ℕ → ℕ → FoundRoots) (A B : ℕ → ℕ → Type 0) → ((t d : ℕ) → B t d → fits t d ≡ true → A t d)

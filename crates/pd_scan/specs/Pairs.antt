@@ -7,7 +7,7 @@ use Rattle.std.specs.List.{AllByRecursion, filter_map, prefix_len, range_with_le
 use Rattle.pd_kinds.specs.ThinFormat.{ThinFields}
 use Rattle.pd_kinds.specs.Graph.{Graph}
 use Rattle.pd_laid.specs.FoundRoots.{FoundRoots, is_better, lost_graph, are_fitting, devices_below, roots_at}
-use Rattle.pd_answers.specs.NamedRepairs.{best_of, in_order, states}
+use Rattle.pd_answers.specs.FoundStates.{best_of, in_order, states}
 use Rattle.pd_graph.specs.Notes.{size_of, note_in}
 use Rattle.pd_measures.specs.Measured.{measure_at}
 use Rattle.pd_scan.specs.declared.trees.LostTrees.{LostTrees}
@@ -15,6 +15,7 @@ use Rattle.pd_scan.specs.Partners.{is_partner, sum_of, time_at, is_noted_good}
 use Rattle.pd_scan.specs.Lost.{AreLostTrees}
 use Rattle.pd_scan.specs.declared.roots.Roots.{Roots}
 use Rattle.pd_scan.specs.declared.states.State.{State}
+use Rattle.pd_scan.specs.declared.states.FoundStates.{FoundStates}
 
 -- a details tree is sound, and what is measured of it has the sum of a mapping tree
 abbrev pub is_partner_of : LostTrees → ℕ → ℕ → Bool
@@ -127,21 +128,23 @@ place_among s others = prefix_len (λ (other : State). not (is_better (state_roo
 abbrev pub best_among : (ℕ → ℕ → Bool) → (ℕ → ℕ → FoundRoots) → ℕ → ℕ → Option FoundRoots
 best_among fits pair nr top = best_of (map (pair top) (filter (fits top) (range_with_len 0 nr)))
 
--- the best 100 of these, of some mapping trees, in order
+-- these of some mapping trees, in order
 abbrev pub best_states : (ℕ → ℕ → Bool) → (ℕ → ℕ → FoundRoots) → ℕ → List ℕ → List FoundRoots
-best_states fits pair nr tops = take 100 (in_order (filter_map (best_among fits pair nr) tops))
+best_states fits pair nr tops = in_order (filter_map (best_among fits pair nr) tops)
 
 -- a state is that of two trees that may fit
 pub record IsStateOf (trees : LostTrees) (s : State) : Type 0 where
   pub fitting : may_fit trees s.roots.top s.roots.details ≡ true
   pub devices : s.devices ≡ (note_in trees.tops s.roots.top).below
 
--- the states are the best ones of trees that may fit, of some mapping trees
-pub record AreStatesOf (trees : LostTrees) (tops : List ℕ) (found : List State) : Type 0 where
-  pub best : map state_roots found ≡ best_states (may_fit trees) (pair_of_trees trees) (size_of trees.details) tops
-  pub each : AllByRecursion (IsStateOf trees) found
+-- the states are those of trees that may fit, of some mapping trees
+pub record AreStatesOf (trees : LostTrees) (tops : List ℕ) (found : FoundStates) : Type 0 where
+  pub best : map state_roots found.best.items ≡ take 100 (best_states (may_fit trees) (pair_of_trees trees) (size_of trees.details) tops)
+  pub number : found.number ≡ length (best_states (may_fit trees) (pair_of_trees trees) (size_of trees.details) tops)
+  pub each : AllByRecursion (IsStateOf trees) found.best.items
 
 -- the states are those of an image
-pub record AreFoundStates (graph : Graph) (image : List (List ℕ)) (found : List State) : Type 0 where
-  pub best : map state_roots found ≡ states graph image
-  pub devices : AllByRecursion (HasDevices graph image) found
+pub record AreFoundStates (graph : Graph) (image : List (List ℕ)) (found : FoundStates) : Type 0 where
+  pub best : map state_roots found.best.items ≡ take 100 (states graph image)
+  pub number : found.number ≡ length (states graph image)
+  pub devices : AllByRecursion (HasDevices graph image) found.best.items

@@ -18,6 +18,8 @@ pub use laws::{
     keys_of_sound_trees_are_those_of_entries, lost_leaves_lead_nowhere,
 };
 pub use lost::{judge_each, settle_lost};
-pub use roots::{Roots, find_roots, lost_super};
-pub use states::{MAX_STATES, State, find_states, first_state_is_the_best, states_fit};
+pub use roots::{Roots, find_roots, lost_format, lost_super};
+pub use states::{
+    FoundStates, MAX_STATES, State, find_states, first_state_is_the_best, place_of, states_fit,
+};
 pub use tops::leave_out_tops;

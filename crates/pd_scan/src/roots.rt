@@ -44,7 +44,7 @@ impl Roots {
     /// then the greater sum of the mappings' times, then the greater number of mappings, the higher first root, and the
     /// higher second one.
     #[tactic(auto, unfolding(pd_laid::specs::FoundRoots::is_better), using(std::proofs::lemmas::Bool::Decides::nat_tests))]
-    pub(crate) fn is_better(&self, other: &Roots) -> bool
+    pub fn is_better(&self, other: &Roots) -> bool
         ensures { result ≡ is_better (roots_of self.now) (roots_of other.now) }
     {
         if self.time != other.time {
@@ -110,7 +110,7 @@ pub fn lost_super(
 }
 
 /// The format of a pool with so many metadata blocks, from 1 to `MAX_META_BLOCKS`, and data blocks. It depends on no root.
-pub(crate) fn lost_format(nr: u64, data_blocks: u64) -> ThinFormat
+pub fn lost_format(nr: u64, data_blocks: u64) -> ThinFormat
     requires some { 1 ≤ nr }
     requires few { nr ≤ MAX_META_BLOCKS }
     ensures { ⟦<ThinFormat as Format>⟧.graph result ≡ graph_of 11 nr data_blocks (thin_layout nr data_blocks) }

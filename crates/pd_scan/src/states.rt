@@ -1,11 +1,11 @@
 //! The states of a pool without its superblock, to choose from (`thin_repair`).
 
-ghost use Rattle.std.specs.Prelude.{◌≡◌, ℕ, ◌<◌, ◌≤◌, min, List, ◌∷◌, insert, length, map, take, IfOk, IfSome, OnOk};
+ghost use Rattle.std.specs.Prelude.{◌≡◌, ℕ, ◌+◌, ◌-◌, ◌^◌, ◌<◌, ◌≤◌, min, List, [], ◌∷◌, insert, length, map, take, IfOk, IfSome, OnOk};
 ghost use Rattle.std.specs.List.{AllByRecursion, range_with_len};
 ghost use Rattle.pd_kinds.specs.declared.limits.TheConstants.{MAX_META_BLOCKS};
 ghost use Rattle.pd_kinds.specs.CheckFault.{CountsCheckFault};
 ghost use Rattle.pd_laid.specs.FoundRoots.{IsFound, lost_graph};
-ghost use Rattle.pd_answers.specs.NamedRepairs.{states as the_states};
+ghost use Rattle.pd_answers.specs.FoundStates.{states as the_states};
 ghost use Rattle.pd_image.specs.Device.{IsAttached, OnlyReads};
 ghost use Rattle.pd_graph.specs.Notes.{size_of};
 ghost use Rattle.pd_scan.specs.declared.states.State.{State as TheState};
@@ -37,8 +37,30 @@ pub struct State {
     pub devices: u64,
 }
 
+/// The states of a pool, of which the best ones are kept.
+#[derive(Drop)]
+pub struct FoundStates {
+    /// The best ones, the best first, `MAX_STATES` at most.
+    pub best: Vec<State>,
+    /// How many there are in all.
+    pub number: u64,
+}
+
+impl FoundStates {
+    /// No states.
+    pub fn none(alloc: Global) -> FoundStates
+        ensures best { result.best.items ≡ [] }
+        ensures number { result.number ≡ 0 }
+    {
+        FoundStates {
+            best: Vec::new(alloc),
+            number: 0,
+        }
+    }
+}
+
 /// The place of a state among others that are in order: before the first one that it is better than.
-fn place_of(states: &[State], state: &State) -> usize
+pub fn place_of(states: &[State], state: &State) -> usize
     ensures place { result ≡ place_among state.now states.now }
     ensures within { result ≤ length states.now }
 {
@@ -50,55 +72,63 @@ fn place_of(states: &[State], state: &State) -> usize
     states.len()
 }
 
-/// Puts a state into its place among others that are in order, the best first, and leaves out what comes after the first
-/// `MAX_STATES`. Want of memory is the only error.
-fn put_state(states: &mut Vec<State>, state: State) -> Result<(), AllocError>
-    ensures { OnOk result (states.new.items ≡ take 100 (insert states.old.items (place_among state states.old.items) state)) }
+/// Counts a state, puts it into its place among the best ones, and leaves out what comes after the first `MAX_STATES`. Want of
+/// memory is the only error.
+fn put_state(found: &mut FoundStates, state: State) -> Result<(), AllocError>
+    requires few { found.old.number < 2 ^ 64 - 1 }
+    ensures best { OnOk result (found.new.best.items
+        ≡ take 100 (insert found.old.best.items (place_among state found.old.best.items) state)) }
+    ensures number { OnOk result (found.new.number ≡ found.old.number + 1) }
 {
-    let place = place_of(states, &state);
-    states.insert(place, state)?;
-    states.truncate(MAX_STATES);
+    let place = place_of(found.best.as_slice(), &state);
+    found.best.insert(place, state)?;
+    found.best.truncate(MAX_STATES);
+    found.number += 1;
     Ok(())
 }
 
 /// Puts the state of a mapping tree, if there is one, among those of others. Want of memory is the only error.
 fn put_best_of_top(
-    states: &mut Vec<State>,
+    found: &mut FoundStates,
     trees: &LostTrees,
     by_sum: &BySum,
     top: u64,
 ) -> Result<(), AllocError>
     requires by_sum { AreBySum trees.now.details trees.now.details_measures (size_of trees.now.details) by_sum.now }
     requires small { top < size_of trees.now.tops }
-    ensures { OnOk result ((tops : List ℕ) → AreStatesOf trees.now tops states.old.items
-        → AreStatesOf trees.now (top ∷ tops) states.new.items) }
+    requires few { found.old.number < 2 ^ 64 - 1 }
+    ensures { OnOk result ((tops : List ℕ) → AreStatesOf trees.now tops found.old → AreStatesOf trees.now (top ∷ tops) found.new) }
 {
     match best_of_top(trees, by_sum, top) {
         Some(roots) => {
             let devices = trees.tops.note(top).below;
-            put_state(states, State { roots, devices })
+            put_state(found, State { roots, devices })
         }
         None => Ok(()),
     }
 }
 
 /// The states of all trees that may fit each other, by the partners of each sum. Want of memory is the only error.
-fn states_by_sum(alloc: Global, trees: &LostTrees, by_sum: &BySum) -> Result<Vec<State>, AllocError>
+fn states_by_sum(
+    alloc: Global,
+    trees: &LostTrees,
+    by_sum: &BySum,
+) -> Result<FoundStates, AllocError>
     requires { AreBySum trees.now.details trees.now.details_measures (size_of trees.now.details) by_sum.now }
-    ensures { IfOk result (λ found. AreStatesOf trees.now (range_with_len 0 (size_of trees.now.tops)) found.items) }
+    ensures { IfOk result (λ found. AreStatesOf trees.now (range_with_len 0 (size_of trees.now.tops)) found) }
 {
     let nr = trees.tops.nr();
-    let mut states = Vec::new(alloc);
+    let mut found = FoundStates::none(alloc);
     for passed in 0..nr {
-        put_best_of_top(&mut states, trees, by_sum, nr - (passed + 1))?;
+        put_best_of_top(&mut found, trees, by_sum, nr - (passed + 1))?;
     }
-    Ok(states)
+    Ok(found)
 }
 
 /// The states of all trees that may fit each other. It takes memory for each sum that a details tree has, and for the states;
 /// want of it is the only error.
-fn states_of_trees(alloc: Global, trees: &LostTrees) -> Result<Vec<State>, AllocError>
-    ensures { IfOk result (λ found. AreStatesOf trees.now (range_with_len 0 (size_of trees.now.tops)) found.items) }
+fn states_of_trees(alloc: Global, trees: &LostTrees) -> Result<FoundStates, AllocError>
+    ensures { IfOk result (λ found. AreStatesOf trees.now (range_with_len 0 (size_of trees.now.tops)) found) }
 {
     let by_sum = partners_by_sum(alloc, &trees.details, &trees.details_measures)?;
     states_by_sum(alloc, trees, &by_sum)
@@ -112,12 +142,12 @@ fn states_by_numbers<D: Device>(
     trees: &mut LostTrees,
     cursors: &mut ListCursors,
     dev: &mut D,
-) -> Result<Vec<State>, CheckFault>
+) -> Result<FoundStates, CheckFault>
     requires attached { IsAttached (D.state dev.old) }
     requires places { HavePlaces (size_of trees.old.tops) trees.old }
     ensures found { IfOk result (λ found. IfSome (D.state dev.old).held (λ image. (data_blocks : ℕ) → AreTreesOf image data_blocks trees.old
-        → AreFoundStates (lost_graph image data_blocks) image found.items)) }
-    ensures inside { IfOk result (λ found. AllByRecursion (λ (s : TheState). AreInside (size_of trees.old.tops) s.roots) found.items) }
+        → AreFoundStates (lost_graph image data_blocks) image found)) }
+    ensures inside { IfOk result (λ found. AllByRecursion (λ (s : TheState). AreInside (size_of trees.old.tops) s.roots) found.best.items) }
     ensures kept { OnlyReads (D.state dev.old) (D.state dev.new) }
     ensures faults { CountsCheckFault result (D.state dev.old).faults (D.state dev.new).faults }
 {
@@ -134,12 +164,12 @@ fn choose_states<D: Device>(
     alloc: Global,
     mut trees: LostTrees,
     dev: &mut D,
-) -> Result<Vec<State>, CheckFault>
+) -> Result<FoundStates, CheckFault>
     requires attached { IsAttached (D.state dev.old) }
     requires places { HavePlaces (size_of trees.tops) trees }
     ensures found { IfOk result (λ found. IfSome (D.state dev.old).held (λ image. (data_blocks : ℕ) → AreTreesOf image data_blocks trees
-        → AreFoundStates (lost_graph image data_blocks) image found.items)) }
-    ensures inside { IfOk result (λ found. AllByRecursion (λ (s : TheState). AreInside (size_of trees.tops) s.roots) found.items) }
+        → AreFoundStates (lost_graph image data_blocks) image found)) }
+    ensures inside { IfOk result (λ found. AllByRecursion (λ (s : TheState). AreInside (size_of trees.tops) s.roots) found.best.items) }
     ensures kept { OnlyReads (D.state dev.old) (D.state dev.new) }
     ensures faults { CountsCheckFault result (D.state dev.old).faults (D.state dev.new).faults }
 {
@@ -154,14 +184,14 @@ fn find_states_in<F: Format, D: Device>(
     alloc: Global,
     format: &F,
     dev: &mut D,
-) -> Result<Vec<State>, CheckFault>
+) -> Result<FoundStates, CheckFault>
     requires pool { IsPool F.ROLES (F.graph format.now) }
     requires attached { IsAttached (D.state dev.old) }
     requires within { (F.graph format.now).nr ≤ (D.state dev.old).blocks }
     ensures found { IfOk result (λ found. IfSome (D.state dev.old).held
         (λ image. (data_blocks : ℕ) → F.graph format.now ≡ lost_graph image data_blocks
-        → AreFoundStates (lost_graph image data_blocks) image found.items)) }
-    ensures inside { IfOk result (λ found. AllByRecursion (λ (s : TheState). AreInside (F.graph format.now).nr s.roots) found.items) }
+        → AreFoundStates (lost_graph image data_blocks) image found)) }
+    ensures inside { IfOk result (λ found. AllByRecursion (λ (s : TheState). AreInside (F.graph format.now).nr s.roots) found.best.items) }
     ensures kept { OnlyReads (D.state dev.old) (D.state dev.new) }
     ensures faults { CountsCheckFault result (D.state dev.old).faults (D.state dev.new).faults }
 {
@@ -170,9 +200,9 @@ fn find_states_in<F: Format, D: Device>(
 }
 
 /// Finds the states to choose from of a pool with so many data blocks, whatever its block 0 holds: for each mapping tree that is
-/// sound and has a details tree that fits it, the best such one. The best state comes first, by the order that `find_roots` has,
-/// and there are `MAX_STATES` at most: where there are more, the best ones. The first state has the roots that `find_roots`
-/// finds, and there is none exactly where it finds none.
+/// sound and has a details tree that fits it, the best such one. The best state comes first, by the order that `find_roots` has.
+/// At most `MAX_STATES` are kept, the best ones, but all are counted. The first state has the roots that `find_roots` finds, and
+/// there is none exactly where it finds none.
 ///
 /// The device is only read. It takes 240 bytes and a set of roles for each of its blocks, of which it looks at no more than
 /// `MAX_META_BLOCKS`. It reserves about 530 KiB, which is used as far as trees are deep, and takes 16 bytes a device for each
@@ -183,20 +213,22 @@ pub fn find_states<D: Device>(
     alloc: Global,
     dev: &mut D,
     data_blocks: u64,
-) -> Result<Vec<State>, CheckFault>
+) -> Result<FoundStates, CheckFault>
     requires attached { IsAttached (D.state dev.old) }
     ensures found { IfOk result (λ found. IfSome (D.state dev.old).held
-        (λ image. map state_roots found.items ≡ the_states (lost_graph image data_blocks) image)) }
+        (λ image. map state_roots found.best.items ≡ take 100 (the_states (lost_graph image data_blocks) image))) }
+    ensures number { IfOk result (λ found. IfSome (D.state dev.old).held
+        (λ image. found.number ≡ length (the_states (lost_graph image data_blocks) image))) }
     ensures devices { IfOk result (λ found. IfSome (D.state dev.old).held
-        (λ image. AllByRecursion (HasDevices (lost_graph image data_blocks) image) found.items)) }
+        (λ image. AllByRecursion (HasDevices (lost_graph image data_blocks) image) found.best.items)) }
     ensures inside { IfOk result (λ found. AllByRecursion
-        (λ (s : TheState). AreInside (min (D.state dev.old).blocks MAX_META_BLOCKS) s.roots) found.items) }
+        (λ (s : TheState). AreInside (min (D.state dev.old).blocks MAX_META_BLOCKS) s.roots) found.best.items) }
     ensures kept { OnlyReads (D.state dev.old) (D.state dev.new) }
     ensures faults { CountsCheckFault result (D.state dev.old).faults (D.state dev.new).faults }
 {
     let nr = dev.blocks().min(MAX_META_BLOCKS);
     if nr == 0 {
-        return Ok(Vec::new(alloc));
+        return Ok(FoundStates::none(alloc));
     }
     find_states_in(alloc, &lost_format(nr, data_blocks), dev)
 }

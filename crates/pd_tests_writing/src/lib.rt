@@ -3,6 +3,8 @@
 #![tactic(auto)]
 
 #[cfg(test)]
+mod damaged_tests;
+#[cfg(test)]
 mod flag_tests;
 #[cfg(test)]
 mod kept_tests;

@@ -80,7 +80,7 @@ fn top_leaf(place: u64, id: u64, root: u64) -> Block {
 
 /// The mapping of virtual block 0 to data block 0, at this time.
 #[tactic(auto, unfolding(pd_kinds::specs::Node::is_ascending))]
-fn one_mapping(place: u64, time: u16) -> Block {
+pub(crate) fn one_mapping(place: u64, time: u16) -> Block {
     let mapping = BlockTime {
         block: 0,
         time: u32::from(time),
@@ -90,7 +90,7 @@ fn one_mapping(place: u64, time: u16) -> Block {
 
 /// The mappings of virtual blocks 0 and 1 to data blocks 0 and 1, the first at this time and the second at time 1.
 #[tactic(auto, unfolding(pd_kinds::specs::Node::is_ascending))]
-fn two_mappings(place: u64, time: u16) -> Block {
+pub(crate) fn two_mappings(place: u64, time: u16) -> Block {
     let first = BlockTime {
         block: 0,
         time: u32::from(time),

@@ -11,7 +11,6 @@ use crate::lost::{Lost, lost_pool};
 use crate::shared_repair_tests::{repair, repaired};
 use pd_kinds::Block;
 use pd_samples::expected::{ONE_MAPPING, ONES, expect, expect_report, expect_so, pool_of};
-use pd_samples::pool::device_leaf;
 use pd_samples::runs::{NOTHING_FAILS, blocks_of, run};
 use std::alloc::{AllocError, Global};
 use std::process::Abort;
@@ -42,7 +41,8 @@ const LISTED: &[Listed] = &[
     (
         MoreMappings,
         "1",
-        "roots 2 3 devices 1 mappings 1 transaction 0 time 0\ndevice 1 kept 1 of 1\nkeeps 1 1 need 10 shared 10\n",
+        "roots 2 3 devices 1 mappings 1 transaction 0 time 0\ndamaged 11 12 devices 1 mappings 1 transaction 0 time 0\n\
+         device 1 kept 1 of 1\nkeeps 1 1 need 10 shared 10\n",
     ),
     (
         FewerMappings,
@@ -70,7 +70,7 @@ type Named = (
     &'static str,
 );
 
-const ALL_KEPT: &str = "device 1 kept 1 of 1\nkeeps 1 1 need 10 shared 10\n";
+pub(crate) const ALL_KEPT: &str = "device 1 kept 1 of 1\nkeeps 1 1 need 10 shared 10\n";
 
 const DETAILS_LOST: &str = "device 1 kept 1 of ?\nkeeps 1 1 need 10 shared 10\n";
 
@@ -183,7 +183,7 @@ pub(crate) fn with_numbers<'a>(
 }
 
 /// A dry run comes to this, and nothing is written.
-fn expect_told(
+pub(crate) fn expect_told(
     alloc: Global,
     image: &[Block],
     data_blocks: &str,
@@ -209,36 +209,8 @@ fn the_states_are_listed_and_what_the_first_one_keeps(rt: HostRuntime) -> Result
     Ok(())
 }
 
-#[test]
-fn at_most_a_hundred_states_are_listed(rt: HostRuntime) -> Result<(), Fail> {
-    // Blocks 20 to 127 are mapping trees of the one device, as block 2 is.
-    let mut image = pool_of(rt.alloc(), ONE_MAPPING, 128)?;
-    image[0] = Block::zeros();
-    for b in 20..128 {
-        image[b] = device_leaf(b as u64, 1);
-    }
-    let mut told = String::new(rt.alloc());
-    for back in 0u64..100 {
-        let top = 127 - back;
-        writeln!(
-            told,
-            "roots {top} 3 devices 1 mappings 1 transaction 0 time 0"
-        )?;
-    }
-    write!(told, "{ALL_KEPT}")?;
-    expect_told(
-        rt.alloc(),
-        image.as_slice(),
-        "1",
-        None,
-        0,
-        told.as_str(),
-        "",
-    )
-}
-
 /// A repair makes a clean pool, on just so many blocks, whose dump ends so.
-fn expect_made(
+pub(crate) fn expect_made(
     rt: &impl Abort,
     alloc: Global,
     words: &[&str],

@@ -135,7 +135,7 @@ fn search_for(
 }
 
 /// Searches an image, where these are the roots that are put, and the dump of the pool that is made ends so.
-fn expect_found(
+pub(crate) fn expect_found(
     rt: &impl Abort,
     alloc: Global,
     image: &[Block],
@@ -156,7 +156,7 @@ fn expect_found(
 }
 
 /// Searches an image, which comes to this status and these notes, with nothing written.
-fn expect_refused(
+pub(crate) fn expect_refused(
     alloc: Global,
     image: &[Block],
     data_blocks: &str,

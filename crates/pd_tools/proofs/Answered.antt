@@ -309,5 +309,5 @@ module _ (terms : Terms) (before after : Objects) (attached : SinkState) (fresh 
   answered_ended (Ok (Refused fault)) status lost done tells = answered_put 3 status _ done (lost done.finding 3 (λ e. omega arith) done.work.leaves) tells
   answered_ended (Ok (NoRoom need blocks)) status lost done tells = answered_put 4 status _ done (lost done.finding 4 (λ e. omega arith) done.work.leaves) tells
   answered_ended (Ok BlockSize) status lost done tells = answered_put 1 status _ done (lost done.finding 1 (λ e. omega arith) done.work.leaves) tells
-  answered_ended (Ok NoRoots) status lost done tells = answered_put 1 status _ done (lost done.finding 1 (λ e. omega arith) done.work.leaves) tells
+  answered_ended (Ok (NoRoots are_damaged)) status lost done tells = answered_put 1 status _ done (lost done.finding 1 (λ e. omega arith) done.work.leaves) tells
   answered_ended (Err stop) status lost stopped tells = answered_stopped stop status stopped tells

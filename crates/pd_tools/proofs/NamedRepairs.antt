@@ -23,6 +23,7 @@ use Rattle.pd_salvage.specs.declared.saved.SalvageFault.TheVariants as f
 use Rattle.pd_repair.specs.declared.repair.RepairFault.{RepairFault}
 use Rattle.pd_repair.specs.Repaired.{AnswersSuper, CountsRepair, HasSuper, IsRepairedFromAs, NamesRules}
 use Rattle.pd_repair.specs.declared.repair.RepairFault.TheVariants as fault
+use Rattle.pd_kept.specs.declared.kept.Kept.{Kept}
 use Rattle.pd_kept.specs.declared.states.Looked.{Looked}
 use Rattle.pd_kept.specs.Kept.{told_of}
 use Rattle.pd_kept.specs.States.{looked_text}
@@ -181,9 +182,8 @@ module _ (given : GivenSuper) (named : Option NamedRoots) (path : List ℕ) (bef
       by None some = refl
       by (Some roots) some = absurd (some refl)
 
--- what is kept from named roots has no states before it
-pub kept_told : (image : Image) (given : GivenSuper) (named : NamedRoots) (s : ThinFields) (looked : Looked) → s ≡ named_fields image given named → IsTold s image (told_of looked.kept)
-    → looked.states.items ≡ [] → Some (looked_text looked) ≡ text_without_super (Some named) given image
-unfolding looked_text
-kept_told image given named s looked is told none =
-    rw none (ap (λ (text : List ℕ). Some text) (text_is s image (told_of looked.kept) told ∙ ap (λ (fields : ThinFields). told_text (told_from fields image)) is))
+-- what is kept from named roots
+pub kept_told : (image : Image) (given : GivenSuper) (named : NamedRoots) (s : ThinFields) (kept : Kept) (text : List ℕ) → s ≡ named_fields image given named → IsTold s image (told_of kept)
+    → text ≡ told_text (told_of kept) → Some text ≡ text_without_super (Some named) given image
+kept_told image given named s kept text is told tells =
+    ap (λ (text : List ℕ). Some text) (tells ∙ (text_is s image (told_of kept) told ∙ ap (λ (fields : ThinFields). told_text (told_from fields image)) is))

@@ -14,7 +14,8 @@ use Rattle.pd_laid.specs.Salvage.{salvage_from, saved_shape_from}
 use Rattle.pd_answers.specs.Terms.{Answer, AreFresh, Objects, Terms, is_possible}
 use Rattle.pd_answers.specs.Outputs.{Lays, Making}
 use Rattle.pd_answers.specs.Repairs.{Saved, saved_making, saved_of}
-use Rattle.pd_answers.specs.Searches.{LeavesFound, Searched, found_from, found_shape, saved_from, searched_answer, seen, timed, no_roots_line, roots_line}
+use Rattle.pd_answers.specs.Searches.{LeavesFound, Searched, found_from, found_shape, saved_from, searched_answer, are_some, seen, timed, roots_line}
+use Rattle.pd_answers.specs.DamagedStates.{damaged_states}
 use Rattle.pd_answers.specs.declared.request.GivenSuper.{GivenSuper}
 use Rattle.pd_image.specs.Device.{KeepsPlace, OnlyReads}
 use Rattle.pd_restoring.specs.Made.{AnswersEnding, Content, IsEarly, IsDone as IsMadeDone}
@@ -25,7 +26,7 @@ use Rattle.pd_repair.specs.declared.repair.RepairFault.TheVariants as fault
 use Rattle.pd_scan.specs.Pairs.{lost_fields}
 use Rattle.pd_tools.specs.declared.ending.Stop.{Stop}
 use Rattle.pd_tools.specs.declared.ending.Stop.TheVariants.{Device, Memory}
-use Rattle.pd_tools.specs.Ending.{repair_ended}
+use Rattle.pd_tools.specs.Ending.{no_roots_text, repair_ended}
 use Rattle.pd_tools.specs.Opened.{AreOpened, Devices, devices_of}
 use Rattle.pd_tools.specs.Restore.{saved_by, saved_content, seen_by}
 use Rattle.pd_tools.specs.Given.{terms_of_search}
@@ -39,9 +40,10 @@ use Rattle.pd_tools.proofs.Restores.{Image}
 use Rattle.pd_tools.proofs.Tasks.{halted_at_rest, read_alone, read_by}
 
 -- what is right to find in what is told
-abbrev pub IsRight : (shared : Bool) → GivenSuper → Option Image → Option FoundRoots → Saved shared → Type 0
-IsRight shared given held roots saved = IfSome held (λ image. IsFound (lost_graph image given.blocks) image roots
-    × IfSome roots (λ r. saved ≡ saved_from shared (lost_graph image given.blocks) image given.transaction given.block_size r))
+abbrev pub IsRight : (shared : Bool) → GivenSuper → Option Image → Option FoundRoots → Bool → Saved shared → Type 0
+IsRight shared given held roots are_damaged saved = IfSome held (λ image. IsFound (lost_graph image given.blocks) image roots
+    × (IfSome roots (λ r. saved ≡ saved_from shared (lost_graph image given.blocks) image given.transaction given.block_size r)
+    × (roots ≡ None → are_damaged ≡ are_some (damaged_states (lost_graph image given.blocks) image))))
 
 -- what is saved from roots, if there are any
 saved_at : (shared : Bool) → GivenSuper → Image → Option FoundRoots → Saved shared
@@ -57,25 +59,31 @@ saved-told shared given image (Some roots) = refl
 -- there is something right to find, whatever is told
 record IsMeant (shared : Bool) (given : GivenSuper) (held : Option Image) : Type 0 where
   roots : Option FoundRoots
+  are_damaged : Bool
   saved : Saved shared
-  right : IsRight shared given held roots saved
+  right : IsRight shared given held roots are_damaged saved
 
 meant : (shared : Bool) (given : GivenSuper) (held : Option Image) → IsMeant shared given held
-meant shared given None = record { roots = None; saved = saved_of shared []; right = tt }
+meant shared given None = record { roots = None; are_damaged = false; saved = saved_of shared []; right = tt }
 meant shared given (Some image) =
     let best = best_roots image given.blocks in
-    record { roots = best.0; saved = saved_at shared given image best.0; right = (best.1, saved-told shared given image best.0) }
+    record {
+      roots = best.0;
+      are_damaged = are_some (damaged_states (lost_graph image given.blocks) image);
+      saved = saved_at shared given image best.0;
+      right = (best.1, (saved-told shared given image best.0, λ e. refl));
+    }
 
-abbrev found_of : {S : Type 0} → Option FoundRoots → S → ℕ → Searched S
-found_of roots saved room = record { roots = roots; saved = saved; room = room }
+abbrev found_of : {S : Type 0} → Option FoundRoots → Bool → S → ℕ → Searched S
+found_of roots are_damaged saved room = record { roots = roots; are_damaged = are_damaged; saved = saved; room = room }
 
 -- the answer to what was found
 module _ {S : Type 0} (making : S → Making) (roots : FoundRoots) (saved : S) (room : ℕ) where
-  answer_made : (making saved).need room ≤ room → searched_answer making (found_of (Some roots) saved room) ≡ record { status = 0; out = roots_line roots; notes = [] }
+  answer_made : (making saved).need room ≤ room → searched_answer making (found_of (Some roots) false saved room) ≡ record { status = 0; out = roots_line roots; notes = [] }
   answer_made fits = rw (le-ltb room ((making saved).need room) fits) refl
 
   answer_small : room < (making saved).need room
-      → searched_answer making (found_of (Some roots) saved room) ≡ record { status = 4; out = []; notes = no_room_line ((making saved).need room) room }
+      → searched_answer making (found_of (Some roots) false saved room) ≡ record { status = 4; out = []; notes = no_room_line ((making saved).need room) room }
   answer_small small = rw (lt-ltb room ((making saved).need room) small) refl
 
 -- an output that was left alone, under each status but 0
@@ -96,7 +104,7 @@ pub search_rests : (shared : Bool) (given : GivenSuper) (from to : List ℕ) (be
 search_rests shared given from to before after fresh alone =
     let m = meant shared given before.input.held in
     record {
-      finding = found_of m.roots m.saved (room_of (blocks_of before.output after.output));
+      finding = found_of m.roots m.are_damaged m.saved (room_of (blocks_of before.output after.output));
       found = (room_at_rest before.output after.output alone.output.held alone.output_measured, m.right);
       leaves = λ status some. left_alone shared _ before after status fresh alone.out alone.output some;
     }
@@ -112,18 +120,19 @@ module _ (shared : Bool) (given : GivenSuper) (from to : List ℕ) (before : Obj
   alone_here = read_alone (terms_of_search shared given from to).uses before opened notes last_input both (record { held = reads.held; history = reads.history }) (λ _. measured) third
 
   -- there are no roots
-  pub search_none : IfSome opened.input.held (λ image. IsFound (lost_graph image given.blocks) image None)
-      → IsEnded (terms_of_search shared given from to) before read_after 1 no_roots_line
-  search_none none = record {
-    finding = found_of None (saved_of shared []) (room_of opened.output.blocks);
+  pub search_none : (are_damaged : Bool)
+      → IfSome opened.input.held (λ image. IsFound (lost_graph image given.blocks) image None × (are_damaged ≡ are_some (damaged_states (lost_graph image given.blocks) image)))
+      → IsEnded (terms_of_search shared given from to) before read_after 1 (no_roots_text are_damaged)
+  search_none are_damaged none = record {
+    finding = found_of None are_damaged (saved_of shared []) (room_of opened.output.blocks);
     found = (
       has_room before.output opened.output opened.output (room_of opened.output.blocks) refl both.output.untouched.held measured refl,
-      one_told before.input.held (λ image is. (is, tt)) (rw both.input.untouched.held at none),
+      one_told before.input.held (λ image is. (is.0, (tt, λ e. is.1))) (rw both.input.untouched.held at none),
     );
     answer = refl;
     possible = refl;
     no_line = λ e. absurd (omega arith);
-    leaves = left_alone shared (found_of None (saved_of shared []) (room_of opened.output.blocks)) before read_after 1 fresh refl both.output.untouched (λ e. omega arith);
+    leaves = left_alone shared (found_of None are_damaged (saved_of shared []) (room_of opened.output.blocks)) before read_after 1 fresh refl both.output.untouched (λ e. omega arith);
   }
 
   -- the search failed
@@ -200,7 +209,7 @@ module _ (shared : Bool) (given : GivenSuper) (from to : List ℕ) (before after
   content = saved_content shared done.pool
 
   abbrev found : Searched (Saved shared)
-  found = found_of (Some roots) done.pool room
+  found = found_of (Some roots) false done.pool room
 
   abbrev answer : Answer
   answer = searched_answer (saved_making shared) found
@@ -208,14 +217,14 @@ module _ (shared : Bool) (given : GivenSuper) (from to : List ℕ) (before after
   abbrev Leaves : ℕ → Type 0
   Leaves status = LeavesFound (saved_making shared) found before after status
 
-  right : IsRight shared given before.input.held (Some roots) done.pool
+  right : IsRight shared given before.input.held (Some roots) false done.pool
   right =
       let image_is : IfSome opened.input.held (λ image. HasBytes image × (length image ≡ opened.input.blocks)) = two_told opened.input.held (λ image a b. (a, b)) bytes number in
       let best_is : IfSome opened.input.held (λ image. AreBest (lost_graph image given.blocks) image roots × (HasBytes image × (length image ≡ opened.input.blocks))) =
       two_told opened.input.held (λ image a b. (a, b)) best image_is in
-      let right_here : IsRight shared given opened.input.held (Some roots) done.pool =
-      two_told opened.input.held (λ image is saved. (is.0, saved_found whole shared given roots opened.input.blocks done.pool image is.1.0 is.1.1 is.0 saved)) best_is done.right in
-      subst (λ (h : Option Image). IsRight shared given h (Some roots) done.pool) both.input.untouched.held right_here
+      let right_here : IsRight shared given opened.input.held (Some roots) false done.pool =
+      two_told opened.input.held (λ image is saved. (is.0, (saved_found whole shared given roots opened.input.blocks done.pool image is.1.0 is.1.1 is.0 saved, λ e. absurd cc))) best_is done.right in
+      subst (λ (h : Option Image). IsRight shared given h (Some roots) false done.pool) both.input.untouched.held right_here
 
   is_found : (out : SinkState) → terms.finds before (record after { out = out }) found
   is_found out = (has_room before.output opened.output after.output room refl both.output.untouched.held measured place.blocks, right)

@@ -129,7 +129,7 @@ low_ending (Faulty report) = lit≤ tt
 low_ending (Refused fault) = lit≤ tt
 low_ending (NoRoom need blocks) = lit≤ tt
 low_ending BlockSize = lit≤ tt
-low_ending NoRoots = lit≤ tt
+low_ending (NoRoots are_damaged) = lit≤ tt
 
 -- a device couldn't be attached, before any work
 pub unopened : (terms : Terms) (before after : Objects) → terms.uses.source ≡ unused → after.source ≡ before.source → after.out ≡ before.out → AreFresh before

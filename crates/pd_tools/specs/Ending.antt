@@ -1,11 +1,11 @@
 -- How the work of a tool ends.
 -- What a call that ends with a line on `notes` does.
-use Rattle.std.specs.Prelude.{◌≡◌, ◌⊎◌, ℕ, List, [], IfSome, Result, Ok, Err}
+use Rattle.std.specs.Prelude.{◌≡◌, ◌⊎◌, ℕ, Bool, if◌then◌else◌, List, [], IfSome, Result, Ok, Err}
 use Rattle.pd_kinds.specs.Objects.{SinkState, Rose, Appends, AppendsFront}
 use Rattle.pd_kinds.specs.Rule.{faults_at, report_of, has_rule}
 use Rattle.pd_grammar.specs.Lines.{no_room_line, refusal_line, reported_lines}
 use Rattle.pd_answers.specs.Rehearsals.{rehearsal_line}
-use Rattle.pd_answers.specs.Searches.{no_roots_line}
+use Rattle.pd_answers.specs.Searches.{no_roots_line, only_damaged_line}
 use Rattle.pd_answers.specs.Writebacks.{block_size_line}
 use Rattle.pd_gen.specs.declared.rehearsal.RehearseFault.{RehearseFault}
 use Rattle.pd_gen.specs.declared.rehearsal.Rehearsal.{Rehearsal}
@@ -51,6 +51,10 @@ pub record IsAttachedNotes (notes attached : SinkState) : Type 0 where
   pub written : attached.written ≡ notes.written
   pub faults : attached.faults ≡ notes.faults
 
+-- the line where there are no roots, and maybe damaged states
+abbrev pub no_roots_text : Bool → List ℕ
+no_roots_text are_damaged = if are_damaged then only_damaged_line else no_roots_line
+
 -- the status of an ending, and what goes to `notes`
 abbrev pub ending_status : Ending → ℕ
 ending_status Done = 0
@@ -58,7 +62,7 @@ ending_status (Faulty report) = 1
 ending_status (Refused fault) = 3
 ending_status (NoRoom need blocks) = 4
 ending_status BlockSize = 1
-ending_status NoRoots = 1
+ending_status (NoRoots are_damaged) = 1
 
 abbrev pub ending_line : Ending → List ℕ
 ending_line Done = []
@@ -66,7 +70,7 @@ ending_line (Faulty report) = reported_lines report
 ending_line (Refused fault) = refusal_line (record { line = fault.line; cause = fault.cause })
 ending_line (NoRoom need blocks) = no_room_line need blocks
 ending_line BlockSize = block_size_line
-ending_line NoRoots = no_roots_line
+ending_line (NoRoots are_damaged) = no_roots_text are_damaged
 
 -- the line was put, and the status is that of the ending; or `notes` failed
 abbrev pub TellsEnd : Result Ending Stop → ℕ → SinkState → SinkState → Type 0
@@ -75,7 +79,7 @@ TellsEnd (Ok (Faulty report)) status old new = PutsLine (ending_line (Faulty rep
 TellsEnd (Ok (Refused fault)) status old new = PutsLine (ending_line (Refused fault)) 3 status old new
 TellsEnd (Ok (NoRoom need blocks)) status old new = PutsLine (ending_line (NoRoom need blocks)) 4 status old new
 TellsEnd (Ok BlockSize) status old new = PutsLine (ending_line BlockSize) 1 status old new
-TellsEnd (Ok NoRoots) status old new = PutsLine (ending_line NoRoots) 1 status old new
+TellsEnd (Ok (NoRoots are_damaged)) status old new = PutsLine (no_roots_text are_damaged) 1 status old new
 TellsEnd (Err stop) status old new = PutsLine (stop_line stop) (stop_status stop) status old new
 
 -- how a restore ended

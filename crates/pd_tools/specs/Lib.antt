@@ -2,6 +2,7 @@ pub mod Ending
 pub mod Task
 pub mod Query
 pub mod Restore
+pub mod Search
 pub mod Given
 pub mod Opened
 pub mod Shrink

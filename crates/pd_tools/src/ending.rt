@@ -5,7 +5,7 @@ ghost use Rattle.pd_kinds.specs.Objects.{Appends, AppendsFront, CountsFault};
 ghost use Rattle.pd_grammar.specs.Lines as lines;
 ghost use Rattle.pd_answers.specs.Terms.{IsUsed, reading};
 ghost use Rattle.pd_kept.specs.States.{looked_text};
-ghost use Rattle.pd_tools.specs.Ending.{TellsEnd, PutsLine};
+ghost use Rattle.pd_tools.specs.Ending.{TellsEnd, PutsLine, no_roots_text};
 ghost use Rattle.pd_tools.specs.declared.ending.Ending.TheVariants as ending;
 
 use crate::query::put_faults;
@@ -30,8 +30,8 @@ pub enum Ending {
     NoRoom { need: u128, blocks: u64 },
     /// A block of the cache, or a data block of the pool, is no whole number of blocks.
     BlockSize,
-    /// No two trees of the image fit each other.
-    NoRoots,
+    /// No two trees of the image fit each other. There may be damaged states.
+    NoRoots { are_damaged: bool },
 }
 
 /// How the work of a task ended that wasn't stopped.
@@ -69,9 +69,20 @@ pub fn put_ending<E: Sink>(ended: Result<Ending, Stop>, notes: &mut E) -> u8
                 put_line(notes, no_room_line(need, blocks).as_bytes(), 4)
             }
             Ending::BlockSize => put_line(notes, BLOCK_SIZE_LINE, 1),
-            Ending::NoRoots => put_line(notes, NO_ROOTS_LINE, 1),
+            Ending::NoRoots { are_damaged } => put_line(notes, no_roots_line(are_damaged), 1),
         },
         Err(stop) => stop.put(notes),
+    }
+}
+
+/// The line of a search that found no roots, and maybe damaged states.
+fn no_roots_line(are_damaged: bool) -> &'static [u8]
+    ensures { result.now ≡ no_roots_text are_damaged }
+{
+    if are_damaged {
+        ONLY_DAMAGED_LINE
+    } else {
+        NO_ROOTS_LINE
     }
 }
 
@@ -128,6 +139,9 @@ pub const BLOCK_SIZE_LINE: &[u8] = b"pdata_tools: block size\n";
 
 /// The line of a search that found no roots.
 pub const NO_ROOTS_LINE: &[u8] = b"pdata_tools: no roots\n";
+
+/// That of one that found damaged states alone.
+pub const ONLY_DAMAGED_LINE: &[u8] = b"pdata_tools: no roots, but damaged ones\n";
 
 /// The line of status 5.
 pub const DEVICE_LINE: &[u8] = b"pdata_tools: device fault\n";

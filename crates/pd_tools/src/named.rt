@@ -123,7 +123,7 @@ fn roots_of(named: &NamedRoots) -> Roots
 // Serves `thin_repair --dry-run`.
 
 /// Tells what a repair would keep of the image at a path, with the numbers that are given: from roots that are named, or else
-/// from the best ones that are found, after the states to choose from.
+/// from the best state that is found, after the states to choose from.
 #[derive(Clone, Copy)]
 pub struct DrySearch<'a> {
     pub path: &'a str,
@@ -156,7 +156,7 @@ impl Task for DrySearch<'_> {
     ) -> Result<Outcome, Stop> {
         match look(alloc, input, &self.given, self.named)? {
             Some(looked) => Ok(Outcome::Told(looked)),
-            None => Ok(Outcome::Ended(Ending::NoRoots)),
+            None => Ok(Outcome::Ended(Ending::NoRoots { are_damaged: false })),
         }
     }
 }
@@ -182,10 +182,7 @@ fn look<A: Device>(
         Some(roots) => {
             let s = named_super(alloc, input, given, &roots)?;
             let kept = kept_by_repair(alloc, input, &s.fields)?;
-            Ok(Some(Looked {
-                states: Vec::new(alloc),
-                kept,
-            }))
+            Ok(Some(Looked::from_named(alloc, kept)))
         }
         None => look_for_states(
             alloc,

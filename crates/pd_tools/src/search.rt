@@ -1,8 +1,9 @@
 //! A repair without a superblock, from the paths of two images and the numbers that are given to the line of the roots.
 //! Serves `thin_repair`.
 
-ghost use Rattle.std.specs.Prelude.{◌≡◌, ◌≤◌, ◌^◌, ℕ, List, IfSome, min};
+ghost use Rattle.std.specs.Prelude.{◌≡◌, ◌≤◌, ◌^◌, ℕ, List, IfOk, IfSome, min};
 ghost use Rattle.pd_kinds.specs.declared.limits.TheConstants.{MAX_META_BLOCKS};
+ghost use Rattle.pd_kinds.specs.CheckFault.{CountsCheckFault};
 ghost use Rattle.pd_kinds.specs.Objects.{DeviceState, SinkState};
 ghost use Rattle.pd_laid.specs.FoundRoots.{AreBest, lost_graph};
 ghost use Rattle.pd_answers.specs.Terms.{AreFresh, Objects};
@@ -14,12 +15,14 @@ ghost use Rattle.pd_words.specs.Words.{IsPoolSize};
 ghost use Rattle.pd_tools.specs.Opened.{AreOpened, Devices, devices};
 ghost use Rattle.pd_tools.specs.Restore.{saved_content, seen_by};
 ghost use Rattle.pd_tools.specs.Given.{terms_of_search};
+ghost use Rattle.pd_tools.specs.Search.{AreInsideHere, IsFoundHere};
 ghost use Rattle.pd_tools.specs.Task.{Works};
 
 use crate::ending::{Ending, Outcome, Stop};
 use crate::repair::ended_of;
 use crate::task::{DevicePath, Places, Task};
 use pd_answers::GivenSuper;
+use pd_damaged::find_damaged;
 use pd_image::Device;
 use pd_kept::usable_blocks;
 use pd_kinds::{CheckFault, ThinSuper};
@@ -61,17 +64,52 @@ impl Task for Search<'_> {
         output: &mut B,
         third: &mut C,
     ) -> Result<Outcome, Stop> {
-        match find_roots(alloc, input, self.given.blocks) {
+        match look_for_roots(alloc, input, self.given.blocks) {
             Ok(found) => match found {
-                Some(roots) => {
+                Found::Best(roots) => {
                     write_found(alloc, &roots, self.shared, &self.given, input, output)
                 }
-                None => Ok(Outcome::Ended(Ending::NoRoots)),
+                Found::NoRoots { are_damaged } => {
+                    Ok(Outcome::Ended(Ending::NoRoots { are_damaged }))
+                }
             },
             Err(fault) => match fault {
                 CheckFault::Memory => Err(Stop::Memory),
                 CheckFault::Device => Err(Stop::Device),
             },
+        }
+    }
+}
+
+/// What a search finds.
+enum Found {
+    /// The best roots.
+    Best(Roots),
+    /// None. There may be damaged states.
+    NoRoots { are_damaged: bool },
+}
+
+/// Looks for the best roots of a pool with so many data blocks, and where there are none for damaged states.
+///
+/// Fails with `CheckFault::Memory` where memory wasn't found, and with `CheckFault::Device` where a read failed.
+fn look_for_roots<A: Device>(
+    alloc: Global,
+    input: &mut A,
+    data_blocks: u64,
+) -> Result<Found, CheckFault>
+    requires attached { IsAttached (A.state input.old) }
+    ensures found { IfOk result (λ found. IfSome (A.state input.old).held (λ image. IsFoundHere image data_blocks found)) }
+    ensures inside { IfOk result (AreInsideHere (min (A.state input.old).blocks MAX_META_BLOCKS)) }
+    ensures kept { OnlyReads (A.state input.old) (A.state input.new) }
+    ensures faults { CountsCheckFault result (A.state input.old).faults (A.state input.new).faults }
+{
+    match find_roots(alloc, input, data_blocks)? {
+        Some(roots) => Ok(Found::Best(roots)),
+        None => {
+            let damaged = find_damaged(alloc, input, data_blocks)?;
+            Ok(Found::NoRoots {
+                are_damaged: damaged.len() > 0,
+            })
         }
     }
 }

@@ -8,6 +8,6 @@ use Rattle.pd_kept.proofs.states.print_states.Given as goal
 abbrev pub invariant-loop-state : goal.invariant-loop-state
 invariant-loop-state g l = record {
   same_reference : l.printer.out.ghost_name ≡ l.initial.printer.out.ghost_name;
-  printed : Printed (flat_map found_line (take l.state-index l.states)) (printing g.K.Sink.state l.initial.printer) (printing g.K.Sink.state l.printer);
+  printed : Printed (flat_map (found_line l.word) (take l.state-index l.states)) (printing g.K.Sink.state l.initial.printer) (printing g.K.Sink.state l.printer);
   faults : (g.K.Sink.state l.printer.out.now).faults ≡ (g.K.Sink.state l.initial.printer.out.now).faults;
 }

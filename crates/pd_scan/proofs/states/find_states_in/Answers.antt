@@ -28,12 +28,12 @@ returns-clause-found g c =
       places = places.details ∙ sym places.tops;
       told = subst (λ (graph : Graph). AreLostTrees graph image trees) e lost;
     }))
-    (subst (λ o. IfSome o (λ image. (data_blocks : ℕ) → AreTreesOf image data_blocks trees → AreFoundStates (lost_graph image data_blocks) image found.items))
+    (subst (λ o. IfSome o (λ image. (data_blocks : ℕ) → AreTreesOf image data_blocks trees → AreFoundStates (lost_graph image data_blocks) image found))
     c.in_ok-trees.ensures.kept.held told)
     c.in_ok-trees.ensures.trees)
     c.choose_states.ensures.found
 
 pub returns-clause-inside : goal.returns-clause-inside
 returns-clause-inside g c =
-    subst (λ (n : ℕ). IfOk c.choose_states.result (λ found. AllByRecursion (λ (s : State). AreInside n s.roots) found.items))
+    subst (λ (n : ℕ). IfOk c.choose_states.result (λ found. AllByRecursion (λ (s : State). AreInside n s.roots) found.best.items))
     c.in_ok-trees.ensures.places.tops c.choose_states.ensures.inside

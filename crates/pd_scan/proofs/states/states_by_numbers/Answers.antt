@@ -11,9 +11,9 @@ returns-clause-found g c =
     IfSome_then (g.D.Device.state c.args.dev.now).held numbered.fits (λ image fits data_blocks are.
     states_found image data_blocks old new are numbered.tops numbered.places.details (fits data_blocks are)
     (λ t d e. c.fitting_trees_match.ensures.roots image data_blocks old t d are e ∙ sym (numbered.pairs t d))
-    c.in_ok-states_of_trees.field-0.items c.in_ok-states_of_trees.ensures)
+    c.in_ok-states_of_trees.field-0 c.in_ok-states_of_trees.ensures)
 
 pub returns-clause-inside : goal.returns-clause-inside
 returns-clause-inside g c =
     let places = c.in_ok-number_lists.ensures.places in
-    states_inside c.number_lists.new.trees _ places.tops places.details c.in_ok-states_of_trees.field-0.items c.in_ok-states_of_trees.ensures.each
+    states_inside c.number_lists.new.trees _ places.tops places.details c.in_ok-states_of_trees.field-0.best.items c.in_ok-states_of_trees.ensures.each

@@ -1,4 +1,4 @@
-use Rattle.std.proofs.Common.{rules, ◌≡◌}
+use Rattle.std.proofs.Common.{rules}
 use Rattle.pd_answers.specs.KeptCache.{with_roots}
 use Rattle.pd_answers.proofs.request.CacheRoots.over.Goals as goal
 

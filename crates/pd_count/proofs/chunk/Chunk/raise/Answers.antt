@@ -5,11 +5,12 @@ use Rattle.pd_count.specs.Counted.{digits_number, form_numbers}
 use Rattle.pd_count.specs.contracts.chunk.Chunk.{the_view}
 use Rattle.pd_count.proofs.FormLemmas.{raised_shown, shown_dense}
 use Rattle.pd_count.proofs.chunk.Chunk.raise.Goals as goal
-use Rattle.pd_count.proofs.chunk.Chunk.raise.Goals.{in-Few, in-Dense}
+use Rattle.pd_count.proofs.chunk.Chunk.raise.Goals.{in-Few, in-Dense, in-Waiting}
 
 pub returns-clause-raised : goal.returns-clause-raised
 returns-clause-raised c = elim c.match-self.branch [
   | in-Few w ↦ λ raised. absurd (false≢true (sym w.result-is ∙ raised))
+  | in-Waiting w ↦ λ raised. absurd (false≢true (sym w.result-is ∙ raised))
   | in-Dense w ↦ λ raised.
       let digits = w.in-Dense.digits in
       let read = w.deref_mut.ensures.value in

@@ -7,4 +7,4 @@ pub returns : goal.returns
 returns c =
     let read = c.deref.result.now in
     let shown = shown_few c.args.self.now c.in-Few.entries.items read (sym c.self.view_is ∙ ap form_numbers c.in-Few.is) c.deref.ensures.value in
-    spread_same 16320 (entered read) (digits_number c.in_ok-digits.digits.items) c.args.self.now c.requires shown c.in_ok-digits.ensures.numbers
+    c.in_ok-self-inside.ensures.same ∙ spread_same 16320 (entered read) (digits_number c.in_ok-digits.digits.items) c.args.self.now c.requires shown c.in_ok-digits.ensures.numbers

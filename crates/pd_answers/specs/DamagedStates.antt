@@ -1,3 +1,4 @@
+-- Trusted base.
 -- The states of a pool whose superblock is lost and whose trees are damaged: what looks like the root of a mapping tree, and the details
 -- tree that gives details for the most of its devices. They are told after the sound states, and nothing takes one unasked.
 use Rattle.std.specs.Prelude.{ℕ, ◌*◌, ◌/◌, ◌%◌, ◌^◌, max, ◌==◌, ◌&&◌, ◌||◌, Bool, not, nat_lt, if◌then◌else◌, List, [], ◌∷◌, length, map, filter, fold, sum_by, count_by}
@@ -9,8 +10,7 @@ use Rattle.pd_kinds.specs.ThinFormat.{ThinFields}
 use Rattle.pd_kinds.specs.Meaning.{Mapping, ThinDevice}
 use Rattle.pd_laid.specs.FoundRoots.{FoundRoots, times_of, is_sound_tree, is_greater}
 use Rattle.pd_laid.specs.Salvage.{is_damaged, salvaged_entries, salvage_from, saved_tops}
-use Rattle.pd_answers.specs.Searches.{found_fields}
-use Rattle.pd_answers.specs.NamedRepairs.{in_order}
+use Rattle.pd_answers.specs.FoundStates.{found_fields, in_order}
 
 -- more than half of a node's values name blocks inside the metadata. A leaf of mappings looks like a mapping tree, but its values are
 -- data blocks times 2^24
